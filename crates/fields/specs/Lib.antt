@@ -1,0 +1,11 @@
+-- The definitions that the contracts of `fields` cite.
+pub mod Units
+pub mod Slot
+pub mod Field
+pub mod Bytes
+pub mod Memory
+pub mod Extents
+pub mod Gathers
+pub mod InTurn
+pub mod Ends
+pub mod Cycles
