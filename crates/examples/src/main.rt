@@ -1,4 +1,5 @@
 // 01's examples and the ends of the ranges, run. What is written is held to the file stdout, which was worked out by a model of its own.
+mod of_fields; // memory, extents, overlaps, and what compress, merge and mask read
 mod of_numbers; // one word or two: 2C to 2E, 63, 67, 70 to 72, 76, 77, 7A to 7C, 8A
 
 fn main() {
@@ -7,4 +8,9 @@ fn main() {
     of_numbers::shifts();
     of_numbers::words();
     of_numbers::numbers_taken_apart();
+    of_fields::reads_and_writes();
+    of_fields::counts();
+    of_fields::extents();
+    of_fields::overlaps();
+    of_fields::gathers();
 }
