@@ -6,4 +6,5 @@ pub mod Quotients
 pub mod Joins
 pub mod Rotations
 pub mod Exact
+pub mod Raised
 pub mod Examples
