@@ -2,7 +2,7 @@
 use mathlib.Core.Bool.{Bool, _&&_}
 use mathlib.Core.Path.{_≡_}
 use mathlib.Core.List.{List}
-use Prim.Native.Nat.{ℕ, _+_, _-_, _%_, _≤_}
+use Prim.Native.Nat.{ℕ, _+_, _-_, _*_, _%_, _≤_}
 use lib.Dec.{leb, eqb}
 use lib.ListN.{length}
 use Rattle.fields.specs.Field.{field, store}
@@ -27,9 +27,13 @@ pub record Aligned (m : List ℕ) (a n : ℕ) : Type 0 where
   pub upto : a + n ≤ origin + size m
   pub whole : a % 8 ≡ 0
 
--- what the n bits at address a hold
+-- what the n bits at address a hold, of a memory of so many bytes that is the number x
+abbrev pub fieldIn : ℕ → ℕ → ℕ → ℕ → ℕ
+fieldIn bytes x a n = field (8 * bytes) (a - origin) n x
+
+-- the same of the lent bytes m
 abbrev pub fieldAt : List ℕ → ℕ → ℕ → ℕ
-fieldAt m a n = field (size m) (a - origin) n (num m)
+fieldAt m a n = fieldIn (length m) (num m) a n
 
 -- m' is m with v in the n bits that have a bits of m to their left: as long, and every other bit as it was
 pub record Kept (m : List ℕ) (a n v : ℕ) (m' : List ℕ) : Type 0 where

@@ -1,0 +1,186 @@
+-- What the layer above may use of an instruction, whatever it does. Assumes nothing.
+use mathlib.Core.Path.{_≡_, refl, sym, ap, subst, _∙_}
+use mathlib.Core.Bool.{Bool, true, false, cond, _&&_}
+use mathlib.Core.List.{List, [], _∷_}
+use mathlib.Core.Logic.{_⊎_, inl, inr}
+use Prim.Native.Nat.{ℕ, zero, suc, _+_, _*_, _%_, _^_, _≤_, _<_}
+use native.Mathlib.Nat.{mod-lt, mod-eq-of-lt}
+use native.Mathlib.Omega.{arith}
+use lib.Bits.{bitOr}
+use lib.Dec.{leb, eqb, lit<, lit≤}
+use lib.ListN.{length}
+use lib.Pow.{pow-pos}
+use borrow.Author.Tests.{leb-true, not-false}
+use Rattle.fields.specs.Memory.{rightLength, origin}
+use Rattle.numbers.specs.declared.division.Rounding.the-variants.{Zero, Down, Up}
+use Rattle.numbers.proofs.Raised.{Among, either, whole-flags, contract-flags}
+use Rattle.instructions.specs.declared.operands.Operands.{Operands}
+use Rattle.instructions.specs.declared.layout.Fields.{Fields}
+use Rattle.instructions.specs.declared.effects.Outcome.{Outcome}
+use Rattle.instructions.specs.declared.effects.Next.{Next}
+use Rattle.instructions.specs.declared.effects.Next.the-variants.{Following, Target}
+use Rattle.instructions.specs.declared.items.Operation.{Operation}
+use Rattle.instructions.specs.declared.items.Operation.the-variants.{Add, Subtract, Shift, Truncate, Floor, Ceiling, Contract, RoundedContract, Transmit}
+use Rattle.instructions.specs.declared.items.Plan as P
+use Rattle.instructions.specs.declared.items.Plan.the-variants.{Vector, Bits, Move}
+use Rattle.instructions.specs.Table.{found}
+use Rattle.instructions.specs.Operands.{codeIn}
+use Rattle.instructions.specs.Fetch.{longIn, lengthOf, there, unfetchedAt}
+use Rattle.instructions.specs.Branches.{takenOf, targetOf, branchOf}
+use Rattle.instructions.specs.Layout as Layout
+use Rattle.instructions.specs.Layout.{ofKind, fieldsOf}
+use Rattle.instructions.specs.Verdict.{Case, Check, checks, case, first, verdictOf}
+use Rattle.instructions.specs.Effects.{nextP}
+use Rattle.instructions.specs.Scalars.{cases, scalarOf}
+use Rattle.instructions.specs.Items.{Shape, storedAt, madeAt, flagsAt, Worked, turns, whole}
+use Rattle.instructions.specs.Plan.{makesOf, shape}
+use Rattle.instructions.specs.Instruction.{byItems, planOf, countOf, worksOf, wholeOf, actsOf}
+use Rattle.instructions.proofs.FetchPlaces.{there-ends, long-unfetched, short-unfetched}
+use Rattle.instructions.proofs.VerdictOrder.{Passes, end, next, verdict-none}
+use Rattle.instructions.proofs.VerdictMeaning.{Passed, verdict-passed}
+use Rattle.instructions.proofs.VerdictTests.{both-true}
+use Rattle.instructions.proofs.AppliedOnce.{registers-as-long}
+use Rattle.instructions.proofs.Outcomes.{every, scalar-flags}
+use Rattle.instructions.proofs.Promised.{plan-agrees}
+use Rattle.instructions.proofs.Readied.{accepted, fields-at}
+use Rattle.instructions.proofs.Unions.{or-among}
+
+-- ---- items
+
+-- no items, and one item more
+pub works-none : (word : ℕ) (o : Operands) (bytes from : ℕ) (w : Worked) → worksOf word o bytes from 0 w ≡ w
+unfolding worksOf
+works-none word o bytes from w = refl
+
+pub works-more : (word : ℕ) (o : Operands) (bytes from j : ℕ) (w : Worked) → worksOf word o bytes from (suc j) w ≡ worksOf word o bytes (from + j) 1 (worksOf word o bytes from j w)
+unfolding worksOf
+works-more word o bytes from j w = let e : from + j + 0 ≡ from + j = omega arith in rw e
+
+-- the first k items of a word that passes, in turn or at once
+pub works-whole : (p word : ℕ) (o : Operands) (bytes : ℕ) → rightLength bytes ≡ true → verdictOf p word o bytes ≡ 0 → byItems word ≡ true
+    → (k : ℕ) → k ≤ countOf word o → (w : Worked) → worksOf word o bytes 0 k w ≡ wholeOf word o bytes k w
+unfolding worksOf wholeOf
+works-whole p word o bytes lent passes is k le w = plan-agrees (8 * bytes) (planOf word o) (accepted p word o bytes is passes) w k le
+
+-- items raise no flags but the three
+makes-among : (op : Operation) (x y : ℕ) → Among (makesOf op x y .flags)
+makes-among Add x y = refl
+makes-among Subtract x y = refl
+makes-among Shift x y = refl
+makes-among Truncate x y = whole-flags 15 47 Zero x
+makes-among Floor x y = whole-flags 15 47 Down x
+makes-among Ceiling x y = whole-flags 15 47 Up x
+makes-among Contract x y = contract-flags false x
+makes-among RoundedContract x y = contract-flags true x
+makes-among Transmit x y = refl
+
+plan-among : (p : P.Plan) (x y : ℕ) → Among (shape p .makes x y .flags)
+unfolding shape
+plan-among (Vector v) x y = makes-among (v .operation) x y
+plan-among (Bits b) x y = refl
+plan-among (Move v) x y = refl
+
+item-among : (p : P.Plan) (L i x : ℕ) → Among (flagsAt (shape p) L i x)
+unfolding flagsAt madeAt
+item-among p L i x = either Among (storedAt (shape p) L i x) (plan-among p _ _) refl
+
+turns-among : (p : P.Plan) (L from k : ℕ) (w : Worked) → Among (w .flags) → Among (turns (shape p) L from k w .flags)
+turns-among p L from zero w h = h
+turns-among p L from (suc k) w h = or-among (turns (shape p) L from k w .flags) _ (turns-among p L from k w h) (item-among p L (from + k) (turns (shape p) L from k w .memory))
+
+pub works-flags : (word : ℕ) (o : Operands) (bytes from count : ℕ) (w : Worked) → Among (w .flags) → Among (worksOf word o bytes from count w .flags)
+unfolding worksOf
+works-flags word o bytes from count w h = turns-among (planOf word o) (8 * bytes) from count w h
+
+-- ---- the verdict
+
+-- the numbers that a verdict has
+abbrev Known : ℕ → Type 0
+Known n = (n ≤ 1) ⊎ ((4 ≤ n) × (n ≤ 11))
+
+abbrev AllKnown : List Check → Type 0
+AllKnown [] = Unit {0}
+AllKnown (k ∷ ks) = Known (k .number) × AllKnown ks
+
+first-known : (ks : List Check) (c : Case) → AllKnown ks → Known (first ks c)
+first-known [] c h = inl (lit≤ tt)
+first-known (k ∷ ks) c h = either Known (k .refuses c) (h .0) (first-known ks c (h .1))
+
+pub verdict-known : (p word : ℕ) (o : Operands) (bytes : ℕ) → (verdictOf p word o bytes ≤ 1) ⊎ ((4 ≤ verdictOf p word o bytes) × (verdictOf p word o bytes ≤ 11))
+unfolding verdictOf
+verdict-known p word o bytes = first-known checks (case p word o bytes) (inr (lit≤ tt, lit≤ tt), (inr (lit≤ tt, lit≤ tt), (inr (lit≤ tt, lit≤ tt), (inr (lit≤ tt, lit≤ tt), (inl (lit≤ tt), (inr (lit≤ tt, lit≤ tt), (inr (lit≤ tt, lit≤ tt), (inr (lit≤ tt, lit≤ tt), (inr (lit≤ tt, lit≤ tt), tt)))))))))
+
+-- a word is one half word or two
+pub length-whole : (word : ℕ) → lengthOf word % 32 ≡ 0
+length-whole word = either (λ (n : ℕ). n % 32 ≡ 0) (longIn word) refl refl
+
+-- a word that passes lies in memory
+pub verdict-there : (p word : ℕ) (o : Operands) (bytes : ℕ) → rightLength bytes ≡ true → verdictOf p word o bytes ≡ 0 → p + lengthOf word ≤ origin + 8 * bytes
+verdict-there p word o bytes lent passes = go (verdict-none p word o bytes .0 passes)
+  where
+    by-length : (b : Bool) → unfetchedAt p b bytes ≡ false → p + cond b 64 32 ≤ origin + 8 * bytes
+    by-length true e = let t = there-ends p 2 bytes (lit< tt) (lit≤ tt) (not-false (there p 2 bytes) (long-unfetched p bytes ∙ e)) in let l = t .1 .0 in omega arith
+    by-length false e = let t = there-ends p 1 bytes (lit< tt) (lit≤ tt) (not-false (there p 1 bytes) (short-unfetched p bytes ∙ e)) in let l = t .1 .0 in omega arith
+
+    go : Passes (case p word o bytes) checks → p + lengthOf word ≤ origin + 8 * bytes
+    go (next e _) = by-length (longIn word) e
+
+-- ---- register instructions
+
+module _ (p word : ℕ) (o : Operands) (bytes memory : ℕ) (registers : List ℕ) (flags : ℕ) where
+  -- as many registers, and no flags but the three
+  pub acts-registers : length (actsOf p word o bytes memory registers flags .registers) ≡ length registers
+  unfolding actsOf
+  acts-registers = registers-as-long (scalarOf word o bytes memory .effect) registers
+
+  pub acts-flags : Among flags → Among (actsOf p word o bytes memory registers flags .flags)
+  unfolding actsOf
+  acts-flags h = or-among flags (scalarOf word o bytes memory .flags) h (scalar-flags word o bytes memory)
+
+-- where control goes: to the word that follows, or to a taken target
+abbrev Goes : ℕ → Operands → Outcome → Type 0
+Goes w o r = (r .next ≡ Following) ⊎ ((r .next ≡ Target (targetOf o)) × ((takenOf w o ≡ true) × (fieldsOf w o ≡ Layout.branchOf w o)))
+
+branch-goes : (w : ℕ) (o : Operands) → fieldsOf w o ≡ Layout.branchOf w o → Goes w o (branchOf w o)
+unfolding branchOf
+branch-goes w o f = go (takenOf w o) refl
+  where
+    go : (b : Bool) → takenOf w o ≡ b → (cond b (Target (targetOf o)) Following ≡ Following) ⊎ ((cond b (Target (targetOf o)) Following ≡ Target (targetOf o)) × ((takenOf w o ≡ true) × (fieldsOf w o ≡ Layout.branchOf w o)))
+    go true e = inr (refl, (e, f))
+    go false e = inl refl
+
+scalar-goes : (w : ℕ) (o : Operands) (bytes x : ℕ) → Goes w o (scalarOf w o bytes x)
+unfolding scalarOf found ofKind
+scalar-goes w o bytes x =
+    every (Goes w o) (codeIn w) (cases w o bytes x)
+    ((λ e. inl refl), ((λ e. inl refl), ((λ e. inl refl), ((λ e. inl refl), ((λ e. inl refl), ((λ e. inl refl), ((λ e. inl refl), ((λ e. inl refl), ((λ e. inl refl), ((λ e. inl refl), ((λ e. inl refl), ((λ e. inl refl), ((λ e. inl refl), ((λ e. inl refl), ((λ e. inl refl), ((λ e. inl refl), ((λ e. inl refl), ((λ e. inl refl), ((λ e. branch-goes w o (fields-at w o 0xB0 e)), ((λ e. branch-goes w o (fields-at w o 0xB1 e)), ((λ e. branch-goes w o (fields-at w o 0xB2 e)), ((λ e. branch-goes w o (fields-at w o 0xB3 e)), ((λ e. branch-goes w o (fields-at w o 0xB4 e)), ((λ e. branch-goes w o (fields-at w o 0xB5 e)), tt))))))))))))))))))))))))
+    (inl refl)
+
+-- a right P
+pub acts-place : (p word : ℕ) (o : Operands) (bytes memory : ℕ) (registers : List ℕ) (flags : ℕ) → rightLength bytes ≡ true → verdictOf p word o bytes ≡ 0 → byItems word ≡ false
+    → p < 2 ^ 48 → p % 32 ≡ 0 → (actsOf p word o bytes memory registers flags .p < 2 ^ 48) × (actsOf p word o bytes memory registers flags .p % 32 ≡ 0)
+unfolding actsOf
+acts-place p word o bytes memory registers flags lent passes not-items low whole = go (scalar-goes word o bytes memory)
+  where
+    few : bytes ≤ 65536
+    few = leb-true bytes 65536 (both-true (leb 8 bytes) (leb bytes 65536) (both-true (leb 8 bytes && leb bytes 65536) (eqb (bytes % 8) 0) lent .0) .1)
+
+    Right : ℕ → Type 0
+    Right n = (n < 2 ^ 48) × (n % 32 ≡ 0)
+
+    follows : Right ((p + lengthOf word) % 2 ^ 48)
+    follows =
+        let t = verdict-there p word o bytes lent passes in
+        let f = few in
+        let l = length-whole word in
+        let e : (p + lengthOf word) % 2 ^ 48 ≡ p + lengthOf word = mod-eq-of-lt {n = p + lengthOf word} {m = 2 ^ 48} (omega arith) in
+        rw e (omega arith, omega arith)
+
+    target : takenOf word o ≡ true → fieldsOf word o ≡ Layout.branchOf word o → Right (targetOf o .0)
+    target t f =
+        let q : Passed (Layout.branchOf word o) bytes = subst (λ (g : Fields). Passed g bytes) f (verdict-passed p word o bytes passes) in
+        (mod-lt _ (pow-pos 48), q .target-aligned t)
+
+    go : Goes word o (scalarOf word o bytes memory) → Right (nextP p (lengthOf word) (scalarOf word o bytes memory .next))
+    go (inl e) = rw e follows
+    go (inr (e, (t, f))) = rw e (target t f)

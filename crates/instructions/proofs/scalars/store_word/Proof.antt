@@ -1,0 +1,16 @@
+-- `instructions::scalars::store_word`: all of T. Assumes nothing.
+use borrow.Author.Needs.{needs}
+use Rattle.instructions.proofs.scalars.store_word.Statement.{statement}
+use Rattle.instructions.proofs.scalars.store_word.Tie as tie
+
+word-address-requires : tie.Need-word-address-requires
+word-address-requires c κs = search needs
+
+goes-on-requires : tie.Need-goes-on-requires
+goes-on-requires c κs = search needs
+
+returns : tie.Need-returns
+returns c = rw (← c .before .word-address .ensures) (c .goes-on .ensures)
+
+pub store-word-spec : {M : Type 1} → statement M
+store-word-spec = tie.close (tie.spec word-address-requires goes-on-requires returns)

@@ -1,0 +1,17 @@
+-- `instructions::scalars::word_address`: an index in words. Assumes nothing.
+use borrow.Author.Needs.{needs}
+use Rattle.instructions.proofs.Addressed.{index-is}
+use Rattle.instructions.proofs.scalars.word_address.Statement.{statement}
+use Rattle.instructions.proofs.scalars.word_address.Tie as tie
+
+shifted-requires : tie.Need-shifted-requires
+shifted-requires c κs = search needs
+
+plus-requires : tie.Need-plus-requires
+plus-requires c κs = search needs
+
+returns : tie.Need-returns
+returns c = index-is (c .before .before .args .o .g) (c .before .before .args .o .x) 6 (c .plus .ensures) (c .before .shifted .ensures)
+
+pub word-address-spec : {M : Type 1} → statement M
+word-address-spec = tie.close (tie.spec shifted-requires plus-requires returns)

@@ -1,0 +1,82 @@
+-- What an instruction with items that passes 01's numbers 8 to 11 has: facts on places in the lent memory, counted in bits from its start. Nothing here
+-- says that a source is as long as the result. Assumes nothing.
+use mathlib.Core.Path.{_≡_}
+use mathlib.Core.Logic.{_⊎_}
+use mathlib.Core.List.{List}
+use Prim.Native.Nat.{ℕ, _+_, _*_, _%_, _^_, _≤_, _<_, min}
+use lib.ListN.{length}
+use Rattle.fields.specs.Field.{Apart}
+use Rattle.fields.specs.Bytes.{size}
+use Rattle.fields.specs.Gathers.{pastR, pastS, furthest}
+use Rattle.instructions.specs.declared.items.Source.{Source}
+use Rattle.instructions.specs.declared.items.Source.the-variants.{Field, Value}
+use Rattle.instructions.specs.declared.items.Control.{Control}
+use Rattle.instructions.specs.declared.items.Control.the-variants.{Every, Where}
+use Rattle.instructions.specs.declared.items.VectorPlan.{VectorPlan}
+use Rattle.instructions.specs.declared.items.SecondBits.{SecondBits}
+use Rattle.instructions.specs.declared.items.SecondBits.the-variants.{From, Zeros}
+use Rattle.instructions.specs.declared.items.BitPlan.{BitPlan}
+use Rattle.instructions.specs.declared.items.MovePlan.{MovePlan}
+use Rattle.instructions.specs.declared.items.Plan as P
+use Rattle.instructions.specs.declared.items.Plan.the-variants.{Vector, Bits, Move}
+use Rattle.instructions.specs.Plan.{widthOf, secondOf, takenBy, bitItems, itemsOf}
+
+-- 01, numbers 10 and 11: the n bits at a are in memory and share none with the k bits at c; a field "that nothing is read from is empty and is not checked".
+abbrev pub Away : ℕ → ℕ → ℕ → ℕ → ℕ → Type 0
+Away L c k a n = 0 < n → (a + n ≤ L) × Apart c k a n
+
+-- 01, numbers 8, 10 and 11: a source at a of which n words are read, for a result of n items of w bits at c; "a word result may be exactly a word
+-- source's start".
+pub record WordsPass (L c w n a : ℕ) : Type 0 where
+  pub whole : a % 8 ≡ 0
+  pub upto : a + n * 64 ≤ L
+  pub apart : (Apart c (n * w) a (n * 64)) ⊎ ((a ≡ c) × (64 ≡ w))
+
+-- 01, Vectors: a register itself is no field.
+abbrev pub SourcePasses : ℕ → ℕ → ℕ → ℕ → Source → Type 0
+SourcePasses L c w n (Field a) = WordsPass L c w n a
+SourcePasses L c w n (Value v) = Unit {0}
+
+-- 01, Vectors: "one bit an item".
+abbrev pub ControlPasses : ℕ → ℕ → ℕ → ℕ → Control → Type 0
+ControlPasses L c w n Every = Unit {0}
+ControlPasses L c w n (Where z ones) = (z + n ≤ L) × Apart c (n * w) z n
+
+-- 01, numbers 8, 10 and 11, of a vector's result and of each field that it reads.
+pub record VectorPasses (L : ℕ) (v : VectorPlan) : Type 0 where
+  pub whole : v .result % 8 ≡ 0
+  pub upto : v .result + v .items * widthOf (v .operation) ≤ L
+  pub first : SourcePasses L (v .result) (widthOf (v .operation)) (v .items) (v .first)
+  pub second : SourcePasses L (v .result) (widthOf (v .operation)) (v .items) (secondOf (v .operation) (v .second))
+  pub control : ControlPasses L (v .result) (widthOf (v .operation)) (v .items) (v .control)
+
+-- 01, below the table: "from its base to the last bit read if every item were stored"; an address has 48 bits.
+abbrev pub SecondPasses : ℕ → ℕ → ℕ → ℕ → SecondBits → Type 0
+SecondPasses L c n e (From b) = (b < 2 ^ 48) × Away L c n b e
+SecondPasses L c n e Zeros = Unit {0}
+
+-- 01, numbers 10 and 11, of a bit instruction's result and of R and S.
+pub record BitsPass (L : ℕ) (b : BitPlan) : Type 0 where
+  pub upto : b .result + bitItems (b .rule) (b .runs) ≤ L
+  pub near : b .first < 2 ^ 48
+  pub first : Away L (b .result) (bitItems (b .rule) (b .runs)) (b .first) (furthest (λ j. pastR (takenBy (b .rule) (b .runs) j)) (bitItems (b .rule) (b .runs)))
+  pub second : SecondPasses L (b .result) (bitItems (b .rule) (b .runs)) (furthest (λ j. pastS (takenBy (b .rule) (b .runs) j)) (bitItems (b .rule) (b .runs))) (b .second)
+
+-- 01, numbers 8, 10 and 11, of a move: as many bytes of the source as there are items are read, or all that it has.
+pub record MovePasses (L : ℕ) (v : MovePlan) : Type 0 where
+  pub whole : v .result % 8 ≡ 0
+  pub upto : v .result + v .items * 8 ≤ L
+  pub whole-source : 0 < v .length → v .source % 8 ≡ 0
+  pub source : Away L (v .result) (v .items * 8) (v .source) (min (v .items) (v .length) * 8)
+
+-- 01, numbers 8 to 11, of any instruction with items.
+abbrev pub Accepted : ℕ → P.Plan → Type 0
+Accepted L (Vector v) = VectorPasses L v
+Accepted L (Bits b) = BitsPass L b
+Accepted L (Move v) = MovePasses L v
+
+-- What the work asks: memory as 01 lends it, and an instruction that passes, unless it has no items, which "skips 8 to 11".
+pub record Ready (m : List ℕ) (p : P.Plan) : Type 0 where
+  pub small : length m ≤ 65536
+  pub whole : length m % 8 ≡ 0
+  pub accepted : 0 < itemsOf p → Accepted (size m) p

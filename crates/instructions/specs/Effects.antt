@@ -1,0 +1,61 @@
+-- What an instruction changes, and memory and registers afterwards. Assumes nothing.
+use mathlib.Core.Path.{_≡_}
+use mathlib.Core.List.{List}
+use Prim.Native.Nat.{ℕ, _-_, _*_, _/_, _%_}
+use lib.ListN.{length, getD, set}
+use Rattle.fields.specs.Field.{store}
+use Rattle.fields.specs.Bytes.{num, size}
+use Rattle.fields.specs.Memory.{origin, Aligned}
+use Rattle.fields.specs.Units.{formed}
+use Rattle.instructions.specs.declared.effects.Effect.{Effect}
+use Rattle.instructions.specs.declared.effects.Effect.the-variants.{Nothing, Register, HalfRegister, Byte, Word}
+use Rattle.instructions.specs.declared.effects.Outcome.{Outcome}
+use Rattle.instructions.specs.declared.effects.Next.{Next}
+use Rattle.instructions.specs.declared.effects.Next.the-variants.{Following, Target}
+
+-- 01, The machine that the job sees: half word t is the left half of its register for even t, the right half for odd t: its first bit there.
+abbrev pub halfAt : ℕ → ℕ
+halfAt t = 32 * (t % 2)
+
+-- 01, The machine that the job sees: half word t is a half of register t/2 (rounded down); here with the value v.
+abbrev pub withHalf : ℕ → ℕ → List ℕ → List ℕ
+withHalf t v rs = set rs (t / 2) (store 64 (halfAt t) 32 v (getD rs (t / 2) 0))
+
+-- 01, Instruction words: the registers after an effect.
+abbrev pub registersAfter : Effect → List ℕ → List ℕ
+registersAfter Nothing rs = rs
+registersAfter (Register t v) rs = set rs t v
+registersAfter (HalfRegister t v) rs = withHalf t v rs
+registersAfter (Byte a v) rs = rs
+registersAfter (Word a v) rs = rs
+
+-- 01, Instruction words: the L bits x of memory after an effect.
+abbrev pub memoryAfter : Effect → ℕ → ℕ → ℕ
+memoryAfter Nothing L x = x
+memoryAfter (Register t v) L x = x
+memoryAfter (HalfRegister t v) L x = x
+memoryAfter (Byte a v) L x = store L (a .0 - origin) 8 v x
+memoryAfter (Word a v) L x = store L (a .0 - origin) 64 v x
+
+-- 01, What a call says, 8 and 10: what is stored lies in memory.
+abbrev pub Reaches : Effect → List ℕ → Type 0
+Reaches Nothing m = Unit {0}
+Reaches (Register t v) m = Unit {0}
+Reaches (HalfRegister t v) m = Unit {0}
+Reaches (Byte a v) m = Aligned m (a .0) 8
+Reaches (Word a v) m = Aligned m (a .0) 64
+
+-- 01, How much a contract has to say: the lent bytes m and the registers rs become m' and rs'.
+pub record Applied (e : Effect) (m rs m' rs' : List ℕ) : Type 0 where
+  pub as-long : length m' ≡ length m
+  pub memory : num m' ≡ memoryAfter e (size m) (num m)
+  pub registers : rs' ≡ registersAfter e rs
+
+-- 01, Instruction words: an effect with the flags that it raises; the word that follows is next.
+abbrev pub goesOn : Effect → ℕ → Outcome
+goesOn e f = record { effect = e; flags = f; next = Following }
+
+-- 01, Compare and branch: the next P: a taken target, else the word that follows the one of so many bits at p.
+abbrev pub nextP : ℕ → ℕ → Next → ℕ
+nextP p bits Following = formed p bits
+nextP p bits (Target a) = a .0

@@ -1,0 +1,57 @@
+-- An instruction as the layer above sees it, whatever it is: whether it goes by items, how many, what those do one by one and all at once, and what any other does
+-- in its one step. Memory is one number of so many bytes. Assumes nothing.
+use mathlib.Core.Bool.{Bool, false}
+use mathlib.Core.List.{List}
+use Prim.Native.Nat.{ℕ, _*_}
+use lib.Bits.{bitOr}
+use lib.Dec.{leb}
+use Rattle.instructions.specs.declared.operands.Operands.{Operands}
+use Rattle.instructions.specs.declared.items.Plan as P
+use Rattle.instructions.specs.declared.effects.Outcome.{Outcome}
+use Rattle.instructions.specs.Table.{kindOf, compress}
+use Rattle.instructions.specs.Operands.{foundIn, rowSays}
+use Rattle.instructions.specs.Fetch.{lengthOf}
+use Rattle.instructions.specs.Items.{Worked, worked, turns, whole}
+use Rattle.instructions.specs.Plan.{shape, itemsOf}
+use Rattle.instructions.specs.Planned.{planAt}
+use Rattle.instructions.specs.Effects.{registersAfter, memoryAfter, nextP}
+use Rattle.instructions.specs.Scalars.{scalarOf}
+
+-- 01, Steps: "A vector, bit or move instruction": the kinds from compress on.
+unfoldable pub byItems : ℕ → Bool
+byItems w = rowSays false (λ r. leb compress (kindOf r)) (foundIn w)
+
+-- Its plan.
+unfoldable pub planOf : ℕ → Operands → P.Plan
+planOf w o = planAt (rowSays 0 kindOf (foundIn w)) w o
+
+-- 01, Steps: "one step for each result item": how many.
+abbrev pub countOf : ℕ → Operands → ℕ
+countOf w o = itemsOf (planOf w o)
+
+-- 01, Steps: items from, .., from + count - 1, one after another.
+unfoldable pub worksOf : ℕ → Operands → ℕ → ℕ → ℕ → Worked → Worked
+worksOf w o bytes from count x = turns (shape (planOf w o)) (8 * bytes) from count x
+
+-- 01, Steps: the instruction as a whole, cut after k items: all at once, from its sources as they stood when it began.
+unfoldable pub wholeOf : ℕ → Operands → ℕ → ℕ → Worked → Worked
+wholeOf w o bytes k x = whole (shape (planOf w o)) (8 * bytes) k x
+
+-- Memory, registers, P and flags.
+pub record Done : Type 0 where
+  pub memory : ℕ
+  pub registers : List ℕ
+  pub p : ℕ
+  pub flags : ℕ
+
+abbrev pub done : ℕ → List ℕ → ℕ → ℕ → Done
+done m r p f = record { memory = m; registers = r; p = p; flags = f }
+
+-- An outcome, applied.
+abbrev pub doneBy : Outcome → ℕ → ℕ → ℕ → ℕ → List ℕ → ℕ → Done
+doneBy u p bits bytes m r f =
+    done (memoryAfter (u .effect) (8 * bytes) m) (registersAfter (u .effect) r) (nextP p bits (u .next)) (bitOr f (u .flags))
+
+-- 01, Steps: "Every other takes one".
+unfoldable pub actsOf : ℕ → ℕ → Operands → ℕ → ℕ → List ℕ → ℕ → Done
+actsOf p w o bytes m r f = doneBy (scalarOf w o bytes m) p (lengthOf w) bytes m r f

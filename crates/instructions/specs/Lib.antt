@@ -1,0 +1,16 @@
+-- The definitions that the contracts of `instructions` cite, in the order to read them.
+pub mod Table
+pub mod Words
+pub mod Operands
+pub mod Fetch
+pub mod Branches
+pub mod Layout
+pub mod Verdict
+pub mod Effects
+pub mod Scalars
+pub mod Items
+pub mod Plan
+pub mod Accepted
+pub mod Loops
+pub mod Planned
+pub mod Instruction

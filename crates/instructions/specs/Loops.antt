@@ -1,0 +1,198 @@
+-- What the loops promise, by the plain numbers that they work with. Only private functions promise in these terms. Assumes nothing.
+use mathlib.Core.Path.{_≡_}
+use mathlib.Core.Bool.{Bool, true, false, cond}
+use mathlib.Core.List.{List}
+use Prim.Native.Nat.{ℕ, _+_, _-_, _*_, _/_, _%_, _^_, _≤_, _<_, min}
+use lib.Dec.{eqb, ltb}
+use lib.Bits.{bitOr}
+use lib.ListN.{length}
+use Rattle.fields.specs.declared.gathers.Runs.{Runs}
+use Rattle.fields.specs.Field.{field, Apart}
+use Rattle.fields.specs.Bytes.{num, size}
+use Rattle.fields.specs.Memory.{Kept}
+use Rattle.numbers.specs.declared.flags.WordResult.{WordResult}
+use Rattle.numbers.specs.Flags.{wordResult}
+use Rattle.numbers.specs.Words.{sumOf, differenceOf}
+use Rattle.numbers.specs.Shift.{shiftOf}
+use Rattle.numbers.specs.Whole.{truncateOf, floorOf, ceilingOf}
+use Rattle.numbers.specs.Contract.{contractOf}
+use Rattle.instructions.specs.declared.items.Source.{Source}
+use Rattle.instructions.specs.declared.items.Source.the-variants.{Field, Value}
+use Rattle.instructions.specs.declared.items.Control.{Control}
+use Rattle.instructions.specs.declared.items.Control.the-variants.{Every, Where}
+use Rattle.instructions.specs.declared.items.Operation.{Operation}
+use Rattle.instructions.specs.declared.items.Operation.the-variants.{Add, Subtract, Shift, Truncate, Floor, Ceiling, Contract, RoundedContract, Transmit}
+use Rattle.instructions.specs.declared.items.VectorPlan.{VectorPlan}
+use Rattle.instructions.specs.declared.items.Rule.{Rule}
+use Rattle.instructions.specs.declared.items.Rule.the-variants.{Compress, Merge, Mask}
+use Rattle.instructions.specs.declared.items.SecondBits.{SecondBits}
+use Rattle.instructions.specs.declared.items.SecondBits.the-variants.{From, Zeros}
+use Rattle.instructions.specs.declared.bitruns.Sides.{Sides}
+use Rattle.instructions.specs.declared.bitruns.Period.{Period}
+use Rattle.instructions.specs.declared.bitruns.Cursor.{Cursor}
+use Rattle.instructions.specs.declared.lanes.Lane.{Lane}
+use Rattle.instructions.specs.declared.lanes.Gating.{Gating}
+use Rattle.instructions.specs.declared.lanes.Lanes.{Lanes}
+use Rattle.instructions.specs.Items.{Place, bits, fixed, Made, Shape, Turned}
+use Rattle.instructions.specs.Plan.{vector, secondOf, madeWord, madeHalf}
+
+-- ---- vectors
+
+-- a source by plain numbers, and back
+abbrev pub laneOf : Source → Lane
+laneOf (Field a) = record { field = true; byte = a / 8; value = 0 }
+laneOf (Value v) = record { field = false; byte = 0; value = v }
+
+abbrev pub sourceBy : Bool → Lane → Source
+sourceBy held a = cond held (Field (8 * a .byte)) (Value (a .value))
+
+-- a control field by plain numbers, and back
+abbrev pub gatingOf : Control → Gating
+gatingOf Every = record { some = false; bit = 0; sense = 1 }
+gatingOf (Where z ones) = record { some = true; bit = z; sense = cond ones 1 0 }
+
+abbrev pub controlBy : Bool → Gating → Control
+controlBy some z = cond some (Where (z .bit) (eqb (z .sense) 1)) Every
+
+-- a vector's plan by plain numbers, and back
+unfoldable pub lanesFor : VectorPlan → Lanes
+lanesFor v = record { a = laneOf (v .first); b = laneOf (secondOf (v .operation) (v .second)); z = gatingOf (v .control); c = v .result / 8 }
+
+abbrev pub laned : (ℕ → ℕ → Made) → ℕ → Bool → Bool → Bool → Lane → Lane → Gating → ℕ → Shape
+laned g w fa fb fz a b z c = vector (sourceBy fa a) (sourceBy fb b) (controlBy fz z) (8 * c) w g
+
+abbrev pub lanesOf : (ℕ → ℕ → Made) → ℕ → Lanes → Shape
+lanesOf g w at = laned g w (at .a .field) (at .b .field) (at .z .some) (at .a) (at .b) (at .z) (at .c)
+
+-- no source
+abbrev pub noLane : Lane
+noLane = record { field = false; byte = 0; value = 0 }
+
+-- n items of k bytes at byte c, their sources and their control bits lie in m
+pub record InReach (m : List ℕ) (fa fb fz : Bool) (a b : Lane) (z : Gating) (c k n : ℕ) : Type 0 where
+  pub small : length m ≤ 65536
+  pub few : n ≤ 65536
+  pub a-bit : z .sense < 2
+  pub upto-a : fa ≡ true → (i : ℕ) → i < n → a .byte + i * 8 + 8 ≤ length m
+  pub upto-b : fb ≡ true → (i : ℕ) → i < n → b .byte + i * 8 + 8 ≤ length m
+  pub upto-z : fz ≡ true → (i : ℕ) → i < n → z .bit + i < size m
+  pub upto-c : (i : ℕ) → i < n → c + i * k + k ≤ length m
+
+abbrev pub LanesReach : List ℕ → Lanes → ℕ → ℕ → Type 0
+LanesReach m at k n = InReach m (at .a .field) (at .b .field) (at .z .some) (at .a) (at .b) (at .z) (at .c) k n
+
+-- half words are made of one source
+abbrev pub Suited : Operation → Lanes → Type 0
+Suited Add at = Unit {0}
+Suited Subtract at = Unit {0}
+Suited Shift at = Unit {0}
+Suited Truncate at = Unit {0}
+Suited Floor at = Unit {0}
+Suited Ceiling at = Unit {0}
+Suited Contract at = at .b ≡ noLane
+Suited RoundedContract at = at .b ≡ noLane
+Suited Transmit at = Unit {0}
+
+-- what the vector of a function code makes of two words
+abbrev pub wordOf : ℕ → ℕ → ℕ → WordResult
+wordOf code x y =
+    cond (eqb code 0x83) (wordResult (sumOf x y) 0)
+    (cond (eqb code 0x87) (wordResult (differenceOf x y) 0)
+    (cond (eqb code 0x8A) (wordResult (shiftOf x y) 0)
+    (cond (eqb code 0x90) (truncateOf x)
+    (cond (eqb code 0x91) (floorOf x)
+    (cond (eqb code 0x92) (ceilingOf x) (wordResult x 0))))))
+
+abbrev pub wordsOf : ℕ → ℕ → ℕ → Made
+wordsOf code x y = madeWord (wordOf code x y)
+
+abbrev pub halvesOf : Bool → ℕ → ℕ → Made
+halvesOf rounded x y = madeHalf (contractOf rounded x)
+
+-- go is 1 where the control bit has the sense asked, else 0
+pub record Gate (go bit sense : ℕ) : Type 0 where
+  pub a-bit : go < 2
+  pub tells : eqb go 1 ≡ eqb bit sense
+
+-- m' is m with the new item, or the old one, in the w bits at a, and f' is f with the flags of a new one
+pub record Settled (m : List ℕ) (a w : ℕ) (go : Bool) (new : Made) (f : ℕ) (m' : List ℕ) (f' : ℕ) : Type 0 where
+  pub kept : Kept m a w (cond go (new .item % 2 ^ w) (field (size m) a w (num m))) m'
+  pub sets : f' ≡ bitOr f (cond go (new .flags) 0)
+
+-- as Turned, of a shape that sets no flags: whatever they are
+abbrev pub Done : Shape → ℕ → ℕ → List ℕ → List ℕ → Type 0
+Done s from k m m' = (f : ℕ) → Turned s from k m f m' f
+
+-- ---- move: n bytes are worked, of which the source has some
+
+pub record ReadyBytes (m : List ℕ) (a r c n : ℕ) : Type 0 where
+  pub small : length m ≤ 65536
+  pub whole-a : 0 < r → a % 8 ≡ 0
+  pub whole-c : c % 8 ≡ 0
+  pub upto-a : 0 < min n r → a + min n r * 8 ≤ size m
+  pub upto-c : c + n * 8 ≤ size m
+
+-- ---- bits
+
+-- n bits at a lie in m, which is whole words
+pub record Room (m : List ℕ) (a n : ℕ) : Type 0 where
+  pub small : length m ≤ 65536
+  pub words : length m % 8 ≡ 0
+  pub some : 0 < n
+  pub few : n ≤ 32
+  pub upto : a + n ≤ size m
+
+abbrev pub sidesOf : ℕ → SecondBits → Sides
+sidesOf r (From s) = record { r = r; some = true; s = s }
+sidesOf r Zeros = record { r = r; some = false; s = 0 }
+
+abbrev pub periodOf : Rule → Runs → Period
+periodOf Compress t = record { bits = t .r; head = t .r; first = t .r + t .s; second = 0; skipped = 0 }
+periodOf Merge t = record { bits = t .r + t .s; head = t .r; first = t .r; second = t .s; skipped = t .r }
+periodOf Mask t = record { bits = t .r + t .s; head = t .r; first = t .r + t .s; second = t .r + t .s; skipped = 0 }
+
+-- where item i finds its cursor
+unfoldable pub cursorAt : Sides → Period → ℕ → Cursor
+cursorAt d p i = record { place = i % p .bits; r = d .r + i / p .bits * p .first; s = d .s + i / p .bits * p .second }
+
+-- n bits on
+abbrev pub cursorOn : Cursor → Period → ℕ → Cursor
+cursorOn u p n =
+    cond (eqb (u .place + n) (p .bits))
+    (record { place = 0; r = u .r + p .first; s = u .s + p .second })
+    (record { place = u .place + n; r = u .r; s = u .s })
+
+-- the bits left of the run that it stands in
+abbrev pub leftAt : Cursor → Period → ℕ
+leftAt u p = cond (ltb (u .place) (p .head)) (p .head - u .place) (p .bits - u .place)
+
+-- where it stands
+abbrev pub standsAt : Bool → Period → Cursor → Place
+standsAt some p u = cond (ltb (u .place) (p .head)) (bits (u .r + u .place)) (cond some (bits (u .s + (u .place - p .skipped))) (fixed 0))
+
+-- n bits at a place have room; a value needs none
+abbrev pub RoomFor : List ℕ → ℕ → Place → Type 0
+RoomFor m n (bits a) = Room m a n
+RoomFor m n (fixed v) = Unit {0}
+
+-- item i, by its cursor
+abbrev pub wovenAt : Sides → Period → ℕ → Place
+wovenAt d p i = standsAt (d .some) p (cursorAt d p i)
+
+-- a period is of two parts, and not too long
+pub record Paced (p : Period) : Type 0 where
+  pub part-r : p .head ≤ p .bits
+  pub skips : p .skipped ≤ p .head
+  pub short : p .bits ≤ 131072
+  pub short-r : p .first ≤ 131072
+  pub short-s : p .second ≤ 131072
+
+-- n items of bits are worked. Each finds its bit in memory and apart from all of the result.
+pub record ReadyBits (m : List ℕ) (d : Sides) (p : Period) (c n : ℕ) : Type 0 where
+  pub small : length m ≤ 65536
+  pub words : length m % 8 ≡ 0
+  pub upto-c : c + n ≤ size m
+  pub some-bits : 0 < p .bits
+  pub near-r : d .r < 2 ^ 48
+  pub near-s : d .s < 2 ^ 48
+  pub clear : (i a : ℕ) → i < n → wovenAt d p i ≡ bits a → (a < size m) × Apart c n a 1

@@ -1,0 +1,46 @@
+-- The parts of a word that name registers, and what these supply (01, "Instruction words").
+use mathlib.Core.Bool.{Bool, cond}
+use mathlib.Core.List.{List}
+use Prim.Native.Nat.{ℕ, _+_}
+use lib.Dec.{eqb}
+use lib.ListN.{getD}
+use Rattle.fields.specs.Field.{field}
+use Rattle.instructions.specs.declared.operands.Operands.{Operands}
+use Rattle.instructions.specs.declared.table.Row.{Row}
+use Rattle.instructions.specs.declared.table.Found.{Found}
+use Rattle.instructions.specs.declared.table.Found.the-variants.{At, Nothing}
+use Rattle.instructions.specs.Table.{found}
+
+-- "F G X A Y B Z C": F, the function
+abbrev pub codeIn : ℕ → ℕ
+codeIn w = field 64 0 8 w
+
+-- the row of its function, if it is in the table
+abbrev pub foundIn : ℕ → Found
+foundIn w = found (codeIn w)
+
+-- what is asked of that row; `else` where there is none
+abbrev pub rowSays : {A : Type 0} → A → (Row → A) → Found → A
+rowSays else ask Nothing = else
+rowSays else ask (At r) = ask r
+
+-- "F G X A Y B Z C": bit k of G, from the left
+abbrev pub gBit : ℕ → ℕ → Bool
+gBit k w = eqb (field 64 (8 + k) 1 w) 1
+
+-- register t; number 00 "supplies 8000 000000000000", of which "low 48" is the zero that the other 00 with a meaning supply
+unfoldable pub named : List ℕ → ℕ → ℕ
+named registers t = cond (eqb t 0) 0x8000_0000_0000_0000 (getD registers t 0)
+
+-- "Designators have 8 bits. Formats 1, 3, C: F G X A Y B Z C, 64 bits. Formats 4, 7: F R S T, 32 bits": R, S, T have the places of G, X, A
+unfoldable pub gathered : ℕ → List ℕ → Operands
+gathered w registers =
+    record {
+      g = named registers (field 64 8 8 w);
+      x = named registers (field 64 16 8 w);
+      a = named registers (field 64 24 8 w);
+      y = named registers (field 64 32 8 w);
+      b = named registers (field 64 40 8 w);
+      z = named registers (field 64 48 8 w);
+      c = named registers (field 64 56 8 w);
+    }

@@ -1,0 +1,247 @@
+// Compress, merge and mask, by runs of up to 32 bits.
+ghost use mathlib.Core.Path.{_≡_};
+ghost use mathlib.Core.Bool.{true, false};
+ghost use Prim.Native.Nat.{_+_, _-_, _*_, _/_, _%_, _^_, _<_, _≤_, min};
+ghost use lib.ListN.{length};
+ghost use Rattle.fields.specs.Field.{field, store};
+ghost use Rattle.fields.specs.Bytes.{num, size};
+ghost use Rattle.fields.specs.Memory.{Kept};
+ghost use Rattle.instructions.specs.Items.{valueAt};
+ghost use Rattle.instructions.specs.Plan.{taken};
+ghost use Rattle.instructions.specs.Loops.{Done, Room, RoomFor, sidesOf, periodOf, cursorAt, cursorOn, leftAt, standsAt, wovenAt, Paced, ReadyBits};
+use crate::items::BitPlan;
+use crate::items::Rule;
+use crate::items::SecondBits;
+use fields::bytes;
+use fields::gathers::Runs;
+
+// 2 to the n.
+fn power(n: u64) -> u64
+    requires { ⌜ n < 64 ⌝ }
+    ensures { λ r. ⌜ r ≡ 2 ^ n ⌝ }
+{
+    1 << n
+}
+
+// The n bits from bit j of a word on.
+fn part(w: u64, j: u64, n: u64) -> u64
+    requires { ⌜ (0 < n) × (n < 64) × (j + n ≤ 64) ⌝ }
+    ensures { λ r. ⌜ r ≡ field 64 j n w ⌝ }
+{
+    (w >> (64 - (j + n))) % power(n)
+}
+
+// The word with v in those bits.
+fn placed(w: u64, j: u64, n: u64, v: u64) -> u64
+    requires { ⌜ (0 < n) × (n < 64) × (j + n ≤ 64) × (v < 2 ^ n) ⌝ }
+    ensures { λ r. ⌜ r ≡ store 64 j n v w ⌝ }
+{
+    let s = 64 - (j + n);
+    let held = part(w, j, n) << s;
+    w - held + (v << s)
+}
+
+// The n bits at bit `at`, which lie in one aligned word.
+fn in_word(m: &[u8], at: usize, n: u64) -> u64
+    requires { ⌜ Room (now m) at n × (at % 64 + n ≤ 64) ⌝ }
+    ensures { λ r. ⌜ r ≡ field (size (now (m .entry))) at n (num (now (m .entry))) ⌝ }
+{
+    let w = bytes::word(m, at / 64 * 8);
+    part(w, (at % 64) as u64, n)
+}
+
+// v to them.
+fn to_word(m: &mut [u8], at: usize, n: u64, v: u64)
+    requires { ⌜ Room (now m) at n × (at % 64 + n ≤ 64) × (v < 2 ^ n) ⌝ }
+    ensures { λ r. ⌜ Kept (now (m .entry)) at n v (now (m .exit)) ⌝ }
+{
+    let k = at / 64 * 8;
+    let w = bytes::word(m, k);
+    let x = placed(w, (at % 64) as u64, n, v);
+    bytes::put_word(m, k, x);
+}
+
+// The n bits at any bit `at`.
+fn run(m: &[u8], at: usize, n: u64) -> u64
+    requires { ⌜ Room (now m) at n ⌝ }
+    ensures { λ r. ⌜ r ≡ field (size (now (m .entry))) at n (num (now (m .entry))) ⌝ }
+{
+    let h = 64 - (at % 64) as u64;
+    if n <= h {
+        in_word(m, at, n)
+    } else {
+        let l = n - h;
+        let x = in_word(m, at, h);
+        let y = in_word(m, at + h as usize, l);
+        (x << l) | y
+    }
+}
+
+// Where R and S begin; S may be zeros.
+pub struct Sides {
+    pub r: usize,
+    pub some: bool,
+    pub s: usize,
+}
+
+// A period of the result: so many bits, the head of them from R. R goes on by `first` in a period, and S by `second`. Bit q of a period is bit q of
+// R's part of it, or past the head bit q - skipped of S's.
+pub struct Period {
+    pub bits: usize,
+    pub head: usize,
+    pub first: usize,
+    pub second: usize,
+    pub skipped: usize,
+}
+
+// Where the work stands: the place in the period, and where R's and S's parts of it begin.
+pub struct Cursor {
+    pub place: usize,
+    pub r: usize,
+    pub s: usize,
+}
+
+// Where they begin.
+fn two_sides(r: usize, second: SecondBits) -> Sides
+    ensures { λ u. ⌜ u ≡ sidesOf r second ⌝ }
+{
+    match second {
+        SecondBits::From(s) => Sides { r, some: true, s },
+        SecondBits::Zeros => Sides {
+            r,
+            some: false,
+            s: 0,
+        },
+    }
+}
+
+// The period of a rule.
+fn one_period(rule: Rule, runs: Runs) -> Period
+    ensures { λ u. ⌜ (u ≡ periodOf rule runs) × Paced u ⌝ }
+{
+    let r = runs.r as usize;
+    let s = runs.s as usize;
+    match rule {
+        Rule::Compress => Period {
+            bits: r,
+            head: r,
+            first: r + s,
+            second: 0,
+            skipped: 0,
+        },
+        Rule::Merge => Period {
+            bits: r + s,
+            head: r,
+            first: r,
+            second: s,
+            skipped: r,
+        },
+        Rule::Mask => Period {
+            bits: r + s,
+            head: r,
+            first: r + s,
+            second: r + s,
+            skipped: 0,
+        },
+    }
+}
+
+impl Cursor {
+    // At item i.
+    fn at(sides: Sides, p: Period, i: usize) -> Cursor
+        requires { ⌜ (0 < p .bits) × (i ≤ 524288) × Paced p × (sides .r < 2 ^ 48) × (sides .s < 2 ^ 48) ⌝ }
+        ensures { λ u. ⌜ u ≡ cursorAt sides p i ⌝ }
+    {
+        let turn = i / p.bits;
+        Cursor {
+            place: i % p.bits,
+            r: sides.r + turn * p.first,
+            s: sides.s + turn * p.second,
+        }
+    }
+
+    // n bits on, and no further than the period.
+    fn on(self, p: Period, n: usize) -> Cursor
+        requires { ⌜ (self .place < 2 ^ 49) × (n < 2 ^ 49) × (self .r < 2 ^ 49) × (self .s < 2 ^ 49) × Paced p ⌝ }
+        ensures { λ u. ⌜ u ≡ cursorOn self p n ⌝ }
+    {
+        let place = self.place + n;
+        if place == p.bits {
+            Cursor {
+                place: 0,
+                r: self.r + p.first,
+                s: self.s + p.second,
+            }
+        } else {
+            Cursor {
+                place,
+                r: self.r,
+                s: self.s,
+            }
+        }
+    }
+
+    // The bits left of the run that it stands in.
+    fn left(self, p: Period) -> usize
+        requires { ⌜ self .place < p .bits ⌝ }
+        ensures { λ r. ⌜ r ≡ leftAt self p ⌝ }
+    {
+        if self.place < p.head {
+            p.head - self.place
+        } else {
+            p.bits - self.place
+        }
+    }
+}
+
+// The smaller of two.
+fn smaller(m: usize, n: usize) -> usize
+    ensures { λ r. ⌜ r ≡ min m n ⌝ }
+{
+    if m < n { m } else { n }
+}
+
+// The next n bits of the run that the cursor stands in.
+fn next_bits(m: &[u8], some: bool, p: Period, u: Cursor, n: u64) -> u64
+    requires { ⌜ Paced p × RoomFor (now m) n (standsAt some p u) ⌝ }
+    ensures { λ v. ⌜ v ≡ valueAt (size (now (m .entry))) n (standsAt some p u) (num (now (m .entry))) ⌝ }
+{
+    if u.place < p.head {
+        run(m, u.r + u.place, n)
+    } else if some {
+        run(m, u.s + (u.place - p.skipped), n)
+    } else {
+        0
+    }
+}
+
+// The loop of all three. A run ends with the one of R or of S, with the items asked for, or with a half of an aligned word of the result.
+fn weave(m: &mut [u8], sides: Sides, p: Period, c: usize, from: usize, count: usize)
+    requires { ⌜ ReadyBits (now m) sides p c (from + count) × Paced p ⌝ }
+    ensures { λ r. ⌜ Done (taken c 1 (wovenAt sides p)) from count (now (m .entry)) (now (m .exit)) ⌝ }
+{
+    let mut u = Cursor::at(sides, p, from);
+    let mut done: usize = 0;
+    while done < count {
+        let to = c + (from + done);
+        let n = smaller(smaller(u.left(p), count - done), 32 - to % 32);
+        let v = next_bits(m, sides.some, p, u, n as u64);
+        to_word(m, to, n as u64, v);
+        u = u.on(p, n);
+        done += n;
+    }
+}
+
+// Items from..from + count of a compress, merge or mask.
+pub fn gather(m: &mut [u8], plan: BitPlan, from: usize, count: usize)
+    requires { ⌜ ReadyBits (now m) (sidesOf (plan .first) (plan .second)) (periodOf (plan .rule) (plan .runs)) (plan .result) (from + count) ⌝ }
+    ensures { λ r. ⌜ Done (taken (plan .result) 1 (wovenAt (sidesOf (plan .first) (plan .second)) (periodOf (plan .rule) (plan .runs)))) from count (now (m .entry)) (now (m .exit)) ⌝ }
+{
+    let second = plan.second;
+    let rule = plan.rule;
+    let runs = plan.runs;
+    let sides = two_sides(plan.first, second);
+    let p = one_period(rule, runs);
+    let c = plan.result;
+    weave(m, sides, p, c, from, count);
+}

@@ -1,0 +1,94 @@
+// An instruction as the layer above sees it: whether it goes by items, how many, their work, and the one step of any other.
+ghost use mathlib.Core.Path.{_≡_};
+ghost use mathlib.Core.Bool.{true, false};
+ghost use Prim.Native.Nat.{_+_, _≤_};
+ghost use lib.ListN.{length};
+ghost use Rattle.fields.specs.Bytes.{num};
+ghost use Rattle.fields.specs.Memory.{rightLength};
+ghost use Rattle.instructions.specs.Items.{worked};
+ghost use Rattle.instructions.specs.Verdict.{verdictOf};
+ghost use Rattle.instructions.specs.Instruction.{byItems, planOf, countOf, worksOf, done, actsOf};
+use crate::effects;
+use crate::fetch::length_of;
+use crate::items;
+use crate::items::Plan;
+use crate::operands::Operands;
+use crate::operands::code_in;
+use crate::plans::plan_at;
+use crate::scalars;
+use crate::table;
+use crate::table::Found;
+use fields::units::BitAddress;
+
+// A vector, bit or move instruction.
+pub fn by_items(word: u64) -> bool
+    ensures { λ r. ⌜ r ≡ byItems word ⌝ }
+{
+    let found = table::find(code_in(word) as u8);
+    match found {
+        Found::Nothing => false,
+        Found::At(row) => table::COMPRESS <= row.kind(),
+    }
+}
+
+fn plan(word: u64, o: Operands) -> Plan
+    ensures { λ r. ⌜ r ≡ planOf word o ⌝ }
+{
+    let found = table::find(code_in(word) as u8);
+    match found {
+        Found::Nothing => plan_at(0, word, o),
+        Found::At(row) => plan_at(row.kind(), word, o),
+    }
+}
+
+// How many items it has.
+pub fn count(word: u64, o: Operands) -> u64
+    ensures { λ r. ⌜ r ≡ countOf word o ⌝ }
+{
+    items::items(plan(word, o)) as u64
+}
+
+// Items from, .., from + count - 1 of an instruction that no check refuses. Gives the flags.
+pub fn work(
+    memory: &mut [u8],
+    p: u64,
+    word: u64,
+    o: Operands,
+    from: u64,
+    count: u64,
+    flags: u64,
+) -> u64
+    requires { ⌜ (rightLength (length (now memory)) ≡ true) × (verdictOf p word o (length (now memory)) ≡ 0) × (byItems word ≡ true) × (from + count ≤ countOf word o) ⌝ }
+    ensures { λ r. ⌜ (length (now (memory .exit)) ≡ length (now (memory .entry))) × (worked (num (now (memory .exit))) r ≡ worksOf word o (length (now (memory .entry))) from count (worked (num (now (memory .entry))) flags)) ⌝ }
+{
+    items::work(memory, plan(word, o), from as usize, count as usize, flags)
+}
+
+// The next P, and the flags.
+pub struct Acted {
+    pub p: u64,
+    pub flags: u64,
+}
+
+// The one step of any other instruction that no check refuses.
+pub fn act(
+    memory: &mut [u8],
+    registers: &mut [u64],
+    p: u64,
+    word: u64,
+    o: Operands,
+    flags: u64,
+) -> Acted
+    requires { ⌜ (verdictOf p word o (length (now memory)) ≡ 0) × (byItems word ≡ false) × (length (now registers) ≡ 256) ⌝ }
+    ensures { λ r. ⌜ (length (now (memory .exit)) ≡ length (now (memory .entry))) × (done (num (now (memory .exit))) (now (registers .exit)) (r .p) (r .flags) ≡ actsOf p word o (length (now (memory .entry))) (num (now (memory .entry))) (now (registers .entry)) flags) ⌝ }
+{
+    let u = scalars::scalar(word, o, &memory[..]);
+    let effect = u.effect;
+    let next = u.next;
+    effects::apply(effect, memory, registers);
+    let to = next.address(BitAddress(p), length_of(word));
+    Acted {
+        p: to.0,
+        flags: flags | u.flags,
+    }
+}

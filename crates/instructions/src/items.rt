@@ -1,0 +1,128 @@
+// The items of a vector, bit or move instruction: its plan, how many they are, and their work.
+ghost use mathlib.Core.Path.{_≡_};
+ghost use Prim.Native.Nat.{_+_, _≤_};
+ghost use Rattle.instructions.specs.Items.{Turned};
+ghost use Rattle.instructions.specs.Plan.{shape, itemsOf, bitItems};
+ghost use Rattle.instructions.specs.Accepted.{Ready};
+use crate::bitruns;
+use crate::lanes;
+use crate::moves;
+use fields::gathers::Runs;
+
+// Where a vector's source items are: from a bit of the lent memory on, or one value for all.
+pub enum Source {
+    Field(usize),
+    Value(u64),
+}
+
+// Which items are stored: every one, or where the control bit from `base` on is one, or zero.
+pub enum Control {
+    Every,
+    Where { base: usize, ones: bool },
+}
+
+// What a vector makes of its source items.
+pub enum Operation {
+    Add,
+    Subtract,
+    Shift,
+    Truncate,
+    Floor,
+    Ceiling,
+    Contract,
+    RoundedContract,
+    Transmit,
+}
+
+// A vector. One with a single source has a value for `second`, which nothing comes of.
+pub struct VectorPlan {
+    pub operation: Operation,
+    pub first: Source,
+    pub second: Source,
+    pub control: Control,
+    pub result: usize,
+    pub items: u16,
+}
+
+// Which of the bit instructions.
+pub enum Rule {
+    Compress,
+    Merge,
+    Mask,
+}
+
+// The S of a bit instruction: from a bit of the lent memory on, or zeros.
+pub enum SecondBits {
+    From(usize),
+    Zeros,
+}
+
+// A compress, merge or mask, with the lengths in R, S and T.
+pub struct BitPlan {
+    pub rule: Rule,
+    pub first: usize,
+    pub second: SecondBits,
+    pub result: usize,
+    pub runs: Runs,
+}
+
+// A move of `length` bytes, filled after them.
+pub struct MovePlan {
+    pub source: usize,
+    pub length: u16,
+    pub fill: u8,
+    pub result: usize,
+    pub items: u16,
+}
+
+// An instruction with items, as its operands give it. Places are bits of the lent memory, from 0.
+pub enum Plan {
+    Vector(VectorPlan),
+    Bits(BitPlan),
+    Move(MovePlan),
+}
+
+// How many items there are.
+pub fn items(plan: Plan) -> usize
+    ensures { λ r. ⌜ r ≡ itemsOf plan ⌝ }
+{
+    match plan {
+        Plan::Vector(v) => v.items as usize,
+        Plan::Bits(b) => bit_items(b),
+        Plan::Move(v) => v.items as usize,
+    }
+}
+
+// Those of a bit instruction.
+fn bit_items(plan: BitPlan) -> usize
+    ensures { λ r. ⌜ r ≡ bitItems (plan .rule) (plan .runs) ⌝ }
+{
+    let rule = plan.rule;
+    let runs = plan.runs;
+    match rule {
+        Rule::Compress => runs.compress_items().0 as usize,
+        Rule::Merge => runs.merge_items().0 as usize,
+        Rule::Mask => runs.merge_items().0 as usize,
+    }
+}
+
+// Items from..from + count of an accepted instruction.
+pub fn work(memory: &mut [u8], plan: Plan, from: usize, count: usize, flags: u64) -> u64
+    requires { ⌜ Ready (now memory) plan × (from + count ≤ itemsOf plan) ⌝ }
+    ensures { λ r. ⌜ Turned (shape plan) from count (now (memory .entry)) flags (now (memory .exit)) r ⌝ }
+{
+    if count == 0 {
+        return flags;
+    }
+    match plan {
+        Plan::Vector(v) => lanes::vector(memory, v, from, count, flags),
+        Plan::Bits(b) => {
+            bitruns::gather(memory, b, from, count);
+            flags
+        }
+        Plan::Move(v) => {
+            moves::move_bytes(memory, v, from, count);
+            flags
+        }
+    }
+}

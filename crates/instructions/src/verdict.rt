@@ -1,0 +1,102 @@
+// What refuses an instruction: the first of 01's numbers 4 to 11 and 1 that applies.
+ghost use mathlib.Core.Path.{_≡_};
+ghost use Rattle.instructions.specs.Verdict.{misaligned, outside, clash, overlapping, refusalOf, listedOf, verdictOf};
+use crate::fetch::is_long;
+use crate::fetch::unfetched;
+use crate::layout::Fields;
+use crate::layout::of_kind;
+use crate::operands::Operands;
+use crate::table::EXIT;
+use crate::table::Row;
+use crate::words::Decoded;
+use crate::words::decode;
+use fields::extents::Field;
+use fields::units::BitAddress;
+use fields::units::ByteCount;
+
+// 8. Bits need no alignment, so the control field is not asked.
+fn misaligned(f: Fields) -> bool
+    ensures { λ r. ⌜ r ≡ misaligned f ⌝ }
+{
+    let result = f.result;
+    let first = f.first;
+    let second = f.second;
+    let target = f.target.0;
+    (f.taken & (target % 32 != 0)) | (!result.aligned() | (!first.aligned() | !second.aligned()))
+}
+
+// 10.
+fn outside(f: Fields, lent: ByteCount) -> bool
+    ensures { λ r. ⌜ r ≡ outside f (lent .0) ⌝ }
+{
+    let result = f.result;
+    let first = f.first;
+    let second = f.second;
+    let control = f.control;
+    !result.inside(lent) | (!first.inside(lent) | (!second.inside(lent) | !control.inside(lent)))
+}
+
+fn clash(result: Field, source: Field) -> bool
+    ensures { λ r. ⌜ r ≡ clash result source ⌝ }
+{
+    result.shares(source) & !result.in_place(source)
+}
+
+// 11.
+fn overlapping(f: Fields) -> bool
+    ensures { λ r. ⌜ r ≡ overlapping f ⌝ }
+{
+    let result = f.result;
+    clash(result, f.first) | (clash(result, f.second) | result.shares(f.control))
+}
+
+// 8 to 11: what the fields are refused for, or 0. An instruction whose fields are all empty passes.
+fn refusal(f: Fields, lent: ByteCount) -> u64
+    ensures { λ r. ⌜ r ≡ refusalOf f (lent .0) ⌝ }
+{
+    if misaligned(f) {
+        return 8;
+    }
+    if f.short {
+        return 9;
+    }
+    if outside(f, lent) {
+        return 10;
+    }
+    if overlapping(f) {
+        return 11;
+    }
+    0
+}
+
+// 1 and 8 to 11: what a listed word is refused for, once it is known to lie in memory.
+fn listed(row: Row, word: u64, o: Operands, lent: ByteCount) -> u64
+    ensures { λ r. ⌜ r ≡ listedOf row word o (lent .0) ⌝ }
+{
+    let kind = row.kind();
+    if kind == EXIT {
+        return 1;
+    }
+    refusal(of_kind(kind, word, o), lent)
+}
+
+// The first that applies of 4, 5, 6, 7, 1, 8, 9, 10, 11; 0 if none does.
+pub fn verdict(p: BitAddress, word: u64, o: Operands, lent: ByteCount) -> u64
+    ensures { λ r. ⌜ r ≡ verdictOf (p .0) word o (lent .0) ⌝ }
+{
+    let decoded = decode(word);
+    match decoded {
+        Decoded::Refused(why) => {
+            if unfetched(p, is_long(word), lent) {
+                return 4;
+            }
+            why.number()
+        }
+        Decoded::Listed(row) => {
+            if unfetched(p, row.long(), lent) {
+                return 4;
+            }
+            listed(row, word, o, lent)
+        }
+    }
+}

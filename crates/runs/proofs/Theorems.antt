@@ -1,0 +1,232 @@
+-- What this layer promises of a call, beside the functions' own contracts. `run n s` is the call of budget n at the state s (specs/Calls), which the
+-- contract of the code's `run` cites; `strides j s` is j steps, all of them taken. Assumes nothing.
+use mathlib.Core.Path.{_≡_, refl, sym, _∙_, ap}
+use mathlib.Core.Bool.{true, false, false≢true}
+use mathlib.Core.List.{List, [], _∷_}
+use mathlib.Core.Logic.{_↔_, _⊎_}
+use Prim.Native.Nat.{ℕ, suc, _+_, _<_}
+use native.Mathlib.Omega.{arith}
+use lib.ListN.{length}
+use Rattle.fields.specs.Bytes.{num, Bytes}
+use Rattle.fields.proofs.Lists.{num-inj}
+use Rattle.instructions.specs.Items.{worked}
+use Rattle.instructions.specs.Instruction.{countOf}
+use Rattle.runs.specs.declared.answers.Answer.{Answer}
+use Rattle.runs.specs.declared.answers.Answer.the-variants.{Paused, Lengths}
+use Rattle.runs.specs.declared.calls.Outcome.{Outcome}
+use Rattle.runs.specs.declared.control.Control.{Control}
+use Rattle.runs.specs.Answers.{numberOf, paused, OfChecks}
+use Rattle.runs.specs.Records.{possible}
+use Rattle.runs.specs.Steps.{State, ended, next, heldAt, itemsAt, heldOperands, wordAt, step, strides}
+use Rattle.runs.specs.Calls.{lengthsRight, Sound, Refused, Call, call, called, afterwards, inParts, total, OneOrMore, run}
+use Rattle.runs.specs.Wholes.{firstItems, wholes, Partial, cutAt, Reached, whole, part}
+use Rattle.runs.specs.Controls.{Seen, seen, turns, beginAt, finishAt}
+use Rattle.runs.proofs.Numbered.{step-answers, later}
+use Rattle.runs.proofs.Soundness.{strides-sound, possible-marked}
+use Rattle.runs.proofs.Bursting.{holds-of}
+use Rattle.runs.proofs.Iterating.{no-stride, one-stride}
+use Rattle.runs.proofs.Ending.{lengths-wrong, not-possible, all-used, stopped, run-of, ran, run-split}
+use Rattle.runs.proofs.Answering.{stays, taken, says-0, all-steps, says-2, says-3, nothing-changed, says-checked, checked-says}
+use Rattle.runs.proofs.Starts.{blank, nothing-lent, blank-sound, blank-pauses, nothing-refused}
+use Rattle.runs.proofs.Stepping.{stepping}
+use Rattle.runs.proofs.Wholeness.{steps-reach, steps-cut, steps-held}
+
+-- ---- 1. CUTTING
+
+-- A budget may be cut into any parts of one or more: calls one after another, each on the state that the one before left, leave the same registers, memory, record
+-- and flags as one call, with the same last answer and as many steps in all. From every start, an impossible one too; a first part of 0 does no harm.
+pub cutting : (n : ℕ) (ks : List ℕ) (s : State) → OneOrMore ks → inParts n ks s ≡ run (n + total ks) s
+cutting n [] s parts =
+    let e : n + 0 ≡ n = omega arith in
+    rw e
+cutting n (k ∷ ks) s parts =
+    let some : 0 < k + total ks = omega (arith, parts .0) in
+    ap (afterwards (run n s)) (cutting k ks (run n s .state) (parts .1)) ∙ sym (run-split n (k + total ks) s some)
+
+-- ---- 2. ENDED
+
+-- After an exit or a refusal a larger budget gives the same: answer, steps and state.
+pub ended-stays : (n k : ℕ) (s : State) → paused (run n s .answer) ≡ false → run (n + k) s ≡ run n s
+ended-stays n k s = stays n k s (run n s) (ran n s)
+
+-- ---- 3. PAUSED
+
+-- A call says 0 exactly when neither 2 nor 3 applies and its steps are the whole budget. Its steps are those finished in it: so many lead from the state at its start
+-- to the one that it leaves, from every start. (`anywhere`, below, counts them by items and instructions.)
+pub record Pauses (n : ℕ) (s : State) : Type 0 where
+  pub exactly : (numberOf (run n s .answer) ≡ 0) ↔ (Sound s × (run n s .steps ≡ n))
+  pub finished : strides (run n s .steps) s ≡ next (run n s .state)
+
+pub pauses : (n : ℕ) (s : State) → Pauses n s
+pauses n s = record {
+  exactly = (
+    λ h.
+        let z = says-0 n s (run n s) (ran n s) h in
+        (z .0, z .1 .0),
+    λ h. all-steps n s (run n s) (ran n s) (h .0) (h .1),
+  );
+  finished = taken n s (run n s) (ran n s);
+}
+
+-- ---- 4. REFUSED CHANGES NOTHING
+
+-- With 2 and 3 nothing at all has changed, and no step was taken. With 1 and 4 to 11 the state is the one that the last finished step left: between two instructions, with
+-- P at the word that was refused, whose verdict is the answer's number; and fewer steps were taken than the budget allows.
+pub record ChangesNothing (n : ℕ) (s : State) : Type 0 where
+  pub at-once : (numberOf (run n s .answer) ≡ 2) ⊎ (numberOf (run n s .answer) ≡ 3) → (run n s .state ≡ s) × (run n s .steps ≡ 0)
+  pub at-its-word : OfChecks (numberOf (run n s .answer)) → Refused n s (numberOf (run n s .answer)) (run n s .steps) (run n s .state)
+
+pub refused-changes-nothing : (n : ℕ) (s : State) → ChangesNothing n s
+refused-changes-nothing n s = record {
+  at-once = nothing-changed n s (run n s) (ran n s);
+  at-its-word = λ h. says-checked n s (run n s) (ran n s) (later _ h);
+}
+
+-- ---- 5. EXACTLY WHEN
+
+-- 01's table, each number both ways. 0: neither 2 nor 3, and all the budget is used in steps. 2: "memory length wrong, or not 256 registers". 3: "record impossible", where 2
+-- does not apply. 1 and 4 to 11: neither 2 nor 3, and fewer steps than the budget lead to a state between two instructions where this is the verdict on the word at P.
+pub record ExactlyWhen (n : ℕ) (s : State) : Type 0 where
+  pub zero : (numberOf (run n s .answer) ≡ 0) ↔ (Sound s × ((t : State) × (strides n s ≡ next t)))
+  pub two : (numberOf (run n s .answer) ≡ 2) ↔ (lengthsRight (s .bytes) (length (s .registers)) ≡ false)
+  pub three : (numberOf (run n s .answer) ≡ 3) ↔ ((lengthsRight (s .bytes) (length (s .registers)) ≡ true) × (possible (s .bytes) (s .registers) (s .rec) ≡ false))
+  pub checks : (v : ℕ) → OfChecks v → (numberOf (run n s .answer) ≡ v) ↔ ((j : ℕ) × ((t : State) × Refused n s v j t))
+
+pub exactly-when : (n : ℕ) (s : State) → ExactlyWhen n s
+exactly-when n s = record {
+  zero = (
+    λ h.
+        let z = says-0 n s (run n s) (ran n s) h in
+        (z .0, (run n s .state, z .1 .1)),
+    λ h. ap number (run-of n s _ (all-used (h .1 .0) (h .0) (h .1 .1) refl)),
+  );
+  two = (says-2 n s (run n s) (ran n s), λ p. ap number (run-of n s _ (lengths-wrong p refl)));
+  three = (says-3 n s (run n s) (ran n s), λ p. ap number (run-of n s _ (not-possible (p .0) (p .1) refl)));
+  checks =
+      λ v which. (
+        λ e. (run n s .steps, (run n s .state, rw e at (says-checked n s (run n s) (ran n s) (rw (sym e) at (later v which))))),
+        λ h. checked-says n s v (h .0) (h .1 .0) (later v which) (h .1 .1),
+      );
+}
+  where
+    number : Call → ℕ
+    number c = numberOf (c .answer)
+
+-- ---- 6. WHOLE INSTRUCTIONS
+
+-- From a start between two instructions, wherever nothing is half done, the state is the one that some number of whole instructions lead to.
+pub whole-instructions : (n : ℕ) (s : State) → Sound s → s .rec .mark ≡ 0 → run n s .state .rec .mark ≡ 0 → (i : ℕ) × (wholes i s ≡ next (run n s .state))
+whole-instructions n s ok m h = go (run n s .state) (steps-reach (run n s .steps) s (run n s .state) ok m (pauses n s .finished)) h
+  where
+    go : (t : State) → Reached s (run n s .steps) t → t .rec .mark ≡ 0 → (i : ℕ) × (wholes i s ≡ next t)
+    go t (whole i e _ _) h = (i, e)
+    go t (part i k u e _ p is) h = absurd (omega (arith, rw is at h))
+
+-- ---- 7. HALF DONE
+
+-- k steps at a vector, bit or move instruction that passes and has more than k items: the call is paused; memory and flags show exactly the first k items, and the
+-- record holds P, the word as it was fetched, and k (`cutAt` says so).
+pub half-done : (s : State) (k : ℕ) → Sound s → Partial s k → run k s ≡ call (cutAt k s) Paused k
+half-done s k ok h = run-of k s _ (all-used (cutAt k s) ok (steps-cut s k ok h) refl)
+
+-- Wherever a call stops that began between two instructions, the state is the one that whole instructions lead to, or they and the first k items of the next one,
+-- and the reported steps are the instructions' steps and those items. The record then holds that word as it was fetched, whatever memory holds at P.
+pub anywhere : (n : ℕ) (s : State) → Sound s → s .rec .mark ≡ 0 → Reached s (run n s .steps) (run n s .state)
+anywhere n s ok m = steps-reach (run n s .steps) s (run n s .state) ok m (pauses n s .finished)
+
+-- A call that goes on with what is half done works the next items of the word that the record holds, whatever memory holds at P.
+pub goes-on : (s : State) (j : ℕ) → Sound s → (s .rec .mark ≡ 0 → ⊥) → 0 < j → s .rec .items + j < countOf (s .rec .word) (heldOperands s)
+    → run j s ≡ call (heldAt j s) Paused j
+goes-on s j ok marked some short = run-of j s _ (all-used (heldAt j s) ok (steps-held s j ok marked some short) refl)
+
+-- ---- 8. POSSIBLE AGAIN
+
+-- A record that a call hands back is possible with the registers and the memory that it hands back, wherever neither 2 nor 3 was said.
+pub possible-again : (n : ℕ) (s : State) → Sound s → Sound (run n s .state)
+possible-again n s ok = strides-sound (run n s .steps) s (run n s .state) ok (pauses n s .finished)
+
+-- ---- 9. ONE OUTCOME
+
+-- What the contract of `run` says of the memory, registers and outcome that it leaves is met by one memory, one list of registers and one outcome. (`Bytes`: each
+-- byte is below 256, as in every slice of them.)
+pub one-outcome : (x : Call) (m m' r r' : List ℕ) (o o' : Outcome) → Bytes m → Bytes m' → called (length m) (num m) r o ≡ x → called (length m') (num m') r' o' ≡ x
+    → (m ≡ m') × ((r ≡ r') × (o ≡ o'))
+one-outcome x m m' r r' o o' b b' p q =
+    let e : called (length m) (num m) r o ≡ called (length m') (num m') r' o' = p ∙ sym q in (
+      num-inj m m' b b' (ap (λ (c : Call). c .state .bytes) e) (ap (λ (c : Call). c .state .memory) e),
+      (ap (λ (c : Call). c .state .registers) e, ap (λ (c : Call). record { answer = c .answer; steps = c .steps; rec = c .state .rec }) e),
+    )
+
+-- The same of `Control::step`. Every other public function's contract is an equation with its result.
+pub one-step : (x : Seen) (m m' r r' : List ℕ) (d d' : Control) → Bytes m → Bytes m' → seen (length m) (num m) r d ≡ x → seen (length m') (num m') r' d' ≡ x
+    → (m ≡ m') × ((r ≡ r') × (d ≡ d'))
+one-step x m m' r r' d d' b b' p q =
+    let e : seen (length m) (num m) r d ≡ seen (length m') (num m') r' d' = p ∙ sym q in (
+      num-inj m m' b b' (ap (λ (v : Seen). v .bytes) e) (ap (λ (v : Seen). v .memory) e),
+      (ap (λ (v : Seen). v .registers) e, ap (λ (v : Seen). v .control) e),
+    )
+
+-- Begin, step as often as the budget says, and finish: the same as the one call.
+pub step-by-step : (n : ℕ) (s : State) → finishAt n (turns n (beginAt n s)) ≡ run n s
+step-by-step = stepping
+
+-- ---- 10. NOT THESE
+
+-- A run that refuses everything differs wherever a budget is used up in steps: `blank` with budget 0 is such a start.
+pub not-refusing : (wrong : ℕ → State → Call) → ((n : ℕ) (s : State) → paused (wrong n s .answer) ≡ false)
+    → (n : ℕ) (s t : State) → Sound s → strides n s ≡ next t → wrong n s ≡ run n s → ⊥
+not-refusing wrong refuses n s t ok e same =
+    false≢true (sym (refuses n s) ∙ ap (λ (c : Call). paused (c .answer)) (same ∙ run-of n s _ (all-used t ok e refl)))
+
+pub not-refusing-blank : (wrong : ℕ → State → Call) → ((n : ℕ) (s : State) → paused (wrong n s .answer) ≡ false) → wrong 0 blank ≡ run 0 blank → ⊥
+not-refusing-blank wrong refuses = not-refusing wrong refuses 0 blank blank blank-sound (no-stride blank)
+
+-- A run that gives the same answer every time differs at one of two starts.
+pub not-one-answer : (wrong : ℕ → State → Call) (a : Answer) → ((n : ℕ) (s : State) → wrong n s .answer ≡ a)
+    → wrong 0 blank ≡ run 0 blank → wrong 0 nothing-lent ≡ run 0 nothing-lent → ⊥
+not-one-answer wrong a same p q =
+    let e : a ≡ Paused = sym (same 0 blank) ∙ ap (λ (c : Call). c .answer) (p ∙ blank-pauses) in
+    let f : a ≡ Lengths = sym (same 0 nothing-lent) ∙ ap (λ (c : Call). c .answer) (q ∙ nothing-refused 0) in
+    let z : _≡_ {A = ℕ} 0 1 = cc in
+    omega arith
+
+-- A run that touches nothing and says paused differs wherever a step changes the state, and wherever the word at P ends the run.
+pub not-idle : (s t : State) → Sound s → step s ≡ next t → (s ≡ t → ⊥) → call s Paused 1 ≡ run 1 s → ⊥
+not-idle s t ok e differs same = differs (ap (λ (c : Call). c .state) (same ∙ run-of 1 s _ (all-used t ok (one-stride s t e) refl)))
+
+pub not-idle-ended : (n : ℕ) (s : State) (a : Answer) → Sound s → step s ≡ ended a → call s Paused (suc n) ≡ run (suc n) s → ⊥
+not-idle-ended n s a ok e same =
+    false≢true (sym (step-answers s a e) ∙ sym (ap (λ (c : Call). paused (c .answer)) (same ∙ run-of (suc n) s _ (stopped 0 s a ok (omega arith) (no-stride s) e refl))))
+
+-- A run that does a whole vector in its first step, and only counts afterwards, differs wherever one item is not all of them.
+pub not-whole-first : (wrong : ℕ → State → Call) (s : State) → Sound s → Partial s 1
+    → worked (wrong 1 s .state .memory) (wrong 1 s .state .rec .flags) ≡ firstItems (itemsAt s) s → (firstItems 1 s ≡ firstItems (itemsAt s) s → ⊥)
+    → wrong 1 s ≡ run 1 s → ⊥
+not-whole-first wrong s ok h all differs same =
+    differs (sym (ap (λ (c : Call). worked (c .state .memory) (c .state .rec .flags)) (same ∙ half-done s 1 ok h)) ∙ all)
+
+-- A run that says that the whole budget was used differs where nothing is lent, and wherever the word at P ends the run.
+pub not-inventing : (wrong : ℕ → State → Call) → ((n : ℕ) (s : State) → wrong n s .steps ≡ n) → wrong 1 nothing-lent ≡ run 1 nothing-lent → ⊥
+not-inventing wrong says same =
+    let e : _≡_ {A = ℕ} 1 0 = sym (says 1 nothing-lent) ∙ ap (λ (c : Call). c .steps) (same ∙ nothing-refused 1) in
+    omega arith
+
+pub not-inventing-ended : (wrong : ℕ → State → Call) → ((n : ℕ) (s : State) → wrong n s .steps ≡ n)
+    → (n : ℕ) (s : State) (a : Answer) → Sound s → step s ≡ ended a → wrong (suc n) s ≡ run (suc n) s → ⊥
+not-inventing-ended wrong says n s a ok e same =
+    let f : suc n ≡ 0 = sym (says (suc n) s) ∙ ap (λ (c : Call). c .steps) (same ∙ run-of (suc n) s _ (stopped 0 s a ok (omega arith) (no-stride s) e refl)) in
+    omega arith
+
+-- A run that fetches again after a pause differs wherever memory at P no longer holds the word.
+pub not-fetching-again : (wrong : ℕ → State → Call) (s : State) → Sound s → (s .rec .mark ≡ 0 → ⊥) → s .rec .items + 1 < countOf (s .rec .word) (heldOperands s)
+    → wrong 1 s .state .rec .word ≡ wordAt s → (s .rec .word ≡ wordAt s → ⊥) → wrong 1 s ≡ run 1 s → ⊥
+not-fetching-again wrong s ok marked short fetches differs same =
+    differs (sym (ap (λ (c : Call). c .state .rec .word) (same ∙ goes-on s 1 ok marked (omega arith) short)) ∙ fetches)
+
+-- A run that starts a half-done vector afresh differs wherever it is not done with the next item: its record would hold one item done, and not two or more.
+pub not-afresh : (wrong : ℕ → State → Call) (s : State) → Sound s → (s .rec .mark ≡ 0 → ⊥) → s .rec .items + 1 < countOf (s .rec .word) (heldOperands s)
+    → wrong 1 s .state .rec .items ≡ 1 → wrong 1 s ≡ run 1 s → ⊥
+not-afresh wrong s ok marked short one same =
+    let e : s .rec .items + 1 ≡ 1 = sym (ap (λ (c : Call). c .state .rec .items) (same ∙ goes-on s 1 ok marked (omega arith) short)) ∙ one in
+    let some = holds-of _ _ _ (possible-marked (s .bytes) (s .registers) (s .rec) (ok .can) marked) .some in
+    omega arith

@@ -1,0 +1,173 @@
+-- The control state: what a method's proof has to show, from what `perform` ensures. Assumes nothing.
+use mathlib.Core.Path.{_≡_, refl, sym, _∙_, ap}
+use mathlib.Core.Bool.{Bool, true, false, cond, _&&_, false≢true}
+use mathlib.Core.List.{List}
+use Prim.Native.Nat.{ℕ, zero, suc, _+_, _-_, _<_, _≤_}
+use native.Mathlib.Omega.{arith}
+use lib.Dec.{ltb}
+use lib.ListN.{length}
+use borrow.Author.Tests.{ltb-true, ltb-false}
+use Rattle.runs.specs.declared.answers.Answer.{Answer}
+use Rattle.runs.specs.declared.answers.Answer.the-variants.{Paused, Lengths, Impossible}
+use Rattle.runs.specs.declared.records.Record.{Record}
+use Rattle.runs.specs.declared.control.Control.{Control}
+use Rattle.runs.specs.declared.performs.Performed.{Performed}
+use Rattle.runs.specs.declared.performs.Performed.the-variants.{Did, Ended}
+use Rattle.runs.specs.Answers.{paused}
+use Rattle.runs.specs.Records.{possible}
+use Rattle.runs.specs.Steps.{State, at, next, step, strides}
+use Rattle.runs.specs.Calls.{iterate, lengthsRight, Sound, call, closed, called, run}
+use Rattle.runs.specs.Controls.{control, Seen, seen, stateIn, beginning, turned, turnedAt, turn, finishing}
+use Rattle.runs.specs.Inner.{Performs, Within, counted, mayGo, resume, Advanced, Gone}
+use Rattle.runs.proofs.Choices.{cond-holds}
+use Rattle.runs.proofs.Numbered.{paused-only, step-answers}
+use Rattle.runs.proofs.Soundness.{strides-sound}
+use Rattle.runs.proofs.Iterating.{iterate-strides, iterate-ended}
+
+-- ONE STEP
+
+one-stride : (s t : State) (j : ℕ) → 0 < j → j ≤ 1 → strides j s ≡ next t → step s ≡ next t
+unfolding strides
+one-stride s t j some few e =
+    let f : j ≡ 1 = omega arith in
+    rw f at e
+
+turned-none : (n : ℕ) (v : Seen) → n ≡ 0 → turnedAt n v ≡ v
+turned-none n v e = rw e
+
+pub turn-none : (v : Seen) → v .control .left ≡ 0 → v ≡ turn v
+unfolding turn
+turn-none v e =
+    cond-holds (λ (x : Seen). v ≡ x) (paused (v .control .answer)) _ v
+    (cond-holds (λ (x : Seen). v ≡ x) (lengthsRight (v .bytes) (length (v .registers))) _ v (sym (turned-none (v .control .left) v e)) refl)
+    refl
+
+pub turn-over : (v : Seen) → paused (v .control .answer) ≡ false → v ≡ turn v
+unfolding turn
+turn-over v e = rw e
+
+pub turn-wrong : (v : Seen) → lengthsRight (v .bytes) (length (v .registers)) ≡ false → v ≡ turn v
+unfolding turn
+turn-wrong v e = cond-holds (λ (x : Seen). v ≡ x) (paused (v .control .answer)) _ v (rw e) refl
+
+turned-pos : (n : ℕ) (v : Seen) → 0 < n → turnedAt n v ≡ turned (step (stateIn v)) v (n - 1)
+turned-pos zero v some = absurd (omega arith)
+turned-pos (suc k) v some =
+    let e : suc k - 1 ≡ k = omega arith in
+    rw e
+
+-- one step, done or refused, as the code counts it
+pub turn-counted : (v : Seen) (bytes m : ℕ) (r : List ℕ) (x : Performed) → paused (v .control .answer) ≡ true → 0 < v .control .left
+    → lengthsRight (v .bytes) (length (v .registers)) ≡ true → Performs (stateIn v) 1 bytes m r x
+    → seen bytes m r (counted (v .control .rec) (v .control .left) x) ≡ turn v
+unfolding turn
+turn-counted v bytes m r (Did c j) goes some right p =
+    let few = p .1 .0 in
+    let e : j ≡ 1 = omega (arith, p .0) in
+    rw (goes, right, turned-pos (v .control .left) v some, one-stride _ _ j (p .0) (p .1 .0) (p .1 .1), e)
+turn-counted v bytes m r (Ended a) goes some right p =
+    let f : suc (v .control .left - 1) ≡ v .control .left = omega arith in
+    rw (goes, right, turned-pos (v .control .left) v some, p .0, p .1 .0, p .1 .1 .0, p .1 .1 .1, f)
+
+-- no more steps are done than are left
+pub performs-within : (s : State) (most bytes m : ℕ) (r : List ℕ) (left : ℕ) (x : Performed) → most ≤ left → Performs s most bytes m r x → Within left x
+performs-within s most bytes m r left (Did c j) few p = omega (arith, p .1 .0)
+performs-within s most bytes m r left (Ended a) few p = tt
+
+pub within-of : (left : ℕ) (x : Performed) (c : Record) (j : ℕ) → Within left x → x ≡ Did c j → j ≤ left
+within-of left x c j w e = rw e at w
+
+-- SOME STEPS
+
+pub advanced-counted : (v : Seen) (bytes m : ℕ) (r : List ℕ) (x : Performed) → paused (v .control .answer) ≡ true → 0 < v .control .left
+    → Sound (stateIn v) → Performs (stateIn v) (v .control .left) bytes m r x
+    → Advanced v (seen bytes m r (counted (v .control .rec) (v .control .left) x))
+unfolding resume
+advanced-counted v bytes m r (Did c j) goes some ok p =
+    let few = p .1 .0 in
+    let pos = p .0 in
+    let f : j + (v .control .left - j) ≡ v .control .left = omega arith in
+    let g = iterate-strides j (v .control .left - j) _ _ (p .1 .1) in
+    record {
+      same = rw goes (sym (rw f at g));
+      most = omega arith;
+      less = λ h. omega arith;
+      sound = λ h. strides-sound j _ _ ok (p .1 .1);
+    }
+advanced-counted v bytes m r (Ended a) goes some ok p =
+    let q = step-answers _ a (p .0) in
+    record {
+      same = rw (goes, q, p .1 .0, p .1 .1 .0, p .1 .1 .1) (sym (iterate-ended (v .control .left) _ a some (p .0)));
+      most = omega arith;
+      less = λ h. absurd (false≢true (sym q ∙ h));
+      sound = λ h. absurd (false≢true (sym q ∙ h));
+    }
+
+-- a measure: what is left, and one more while no answer is known
+abbrev pub toGo : Control → ℕ
+toGo c = c .left + cond (paused (c .answer)) 1 0
+
+pub toGo-less : (v w : Seen) → paused (v .control .answer) ≡ true → Advanced v w → toGo (w .control) < toGo (v .control)
+toGo-less v w goes a = rw goes (go (paused (w .control .answer)) refl)
+  where
+    go : (b : Bool) → paused (w .control .answer) ≡ b → w .control .left + cond b 1 0 < v .control .left + 1
+    go true q = omega (arith, a .less q)
+    go false q = omega (arith, a .most)
+
+pub may-goes : (c : Control) → mayGo c ≡ true → (paused (c .answer) ≡ true) × (0 < c .left)
+may-goes c e = go (paused (c .answer)) refl e
+  where
+    go : (b : Bool) → paused (c .answer) ≡ b → (b && ltb 0 (c .left)) ≡ true → (paused (c .answer) ≡ true) × (0 < c .left)
+    go true q h = (q, ltb-true _ _ h)
+    go false q h = absurd (false≢true h)
+
+-- THE WHOLE RUN
+
+iterate-none : (n : ℕ) (s : State) (a : Answer) → n ≤ 0 → paused a ≡ true → iterate n s ≡ record { state = s; answer = a; left = n }
+unfolding iterate
+iterate-none zero s a none goes = rw (paused-only a goes)
+iterate-none (suc n) s a none goes = absurd (omega arith)
+
+-- a control state with nothing to do leads to itself
+resume-over : (v : Seen) → mayGo (v .control) ≡ false → resume v ≡ record { state = stateIn v; answer = v .control .answer; left = v .control .left }
+unfolding resume
+resume-over v h = go (paused (v .control .answer)) refl h
+  where
+    go : (b : Bool) → paused (v .control .answer) ≡ b → (b && ltb 0 (v .control .left)) ≡ false
+        → cond b (iterate (v .control .left) (stateIn v)) (record { state = stateIn v; answer = v .control .answer; left = v .control .left })
+        ≡ record { state = stateIn v; answer = v .control .answer; left = v .control .left }
+    go true q k = iterate-none _ _ _ (ltb-false _ _ k) q
+    go false q k = refl
+
+-- where the beginning leads is the run
+run-begins : (bytes m : ℕ) (r : List ℕ) (c : Record) (budget : ℕ) → run budget (at bytes m r c) ≡ closed budget (resume (seen bytes m r (beginning bytes r c budget)))
+unfolding run beginning resume
+run-begins bytes m r c budget = go (lengthsRight bytes (length r)) (possible bytes r c)
+  where
+    nothing : budget - budget ≡ 0
+    nothing = omega arith
+
+    go : (a b : Bool)
+        → cond a (cond b (closed budget (iterate budget (at bytes m r c))) (call (at bytes m r c) Impossible 0)) (call (at bytes m r c) Lengths 0)
+        ≡ closed budget (resume (seen bytes m r (cond a (cond b (control c budget Paused) (control c budget Impossible)) (control c budget Lengths))))
+    go true true = refl
+    go true false = rw nothing
+    go false b = rw nothing
+
+-- a beginning that goes on is sound
+pub begins-sound : (bytes m : ℕ) (r : List ℕ) (c : Record) (budget : ℕ) (d : Control) → d ≡ beginning bytes r c budget → paused (d .answer) ≡ true → Sound (at bytes m r (d .rec))
+unfolding beginning
+begins-sound bytes m r c budget d e h = go (lengthsRight bytes (length r)) refl (possible bytes r c) refl e
+  where
+    go : (a : Bool) → lengthsRight bytes (length r) ≡ a → (b : Bool) → possible bytes r c ≡ b
+        → d ≡ cond a (cond b (control c budget Paused) (control c budget Impossible)) (control c budget Lengths) → Sound (at bytes m r (d .rec))
+    go true p true q k = rw k (record { lengths = p; can = q })
+    go true p false q k = absurd (false≢true (rw k at h))
+    go false p b q k = absurd (false≢true (rw k at h))
+
+pub run-ends : (bytes m : ℕ) (r : List ℕ) (bytes' m' : ℕ) (r' : List ℕ) (c : Record) (budget : ℕ) (b d : Control) → b ≡ beginning bytes r c budget
+    → Gone (seen bytes m r b) (seen bytes' m' r' d) → called bytes' m' r' (finishing d budget) ≡ run budget (at bytes m r c)
+unfolding finishing
+run-ends bytes m r bytes' m' r' c budget b d began g =
+    ap (closed budget) (sym (resume-over (seen bytes' m' r' d) (g .over)) ∙ g .same ∙ ap (λ (x : Control). resume (seen bytes m r x)) began)
+    ∙ sym (run-begins bytes m r c budget)

@@ -1,0 +1,65 @@
+-- The control state by value: the record, what is left of the budget, and the answer, which is `Paused` while none is known. Assumes nothing.
+use mathlib.Core.Bool.{cond}
+use mathlib.Core.List.{List}
+use Prim.Native.Nat.{ℕ, zero, suc, _-_}
+use lib.ListN.{length}
+use Rattle.runs.specs.declared.answers.Answer.{Answer}
+use Rattle.runs.specs.declared.answers.Answer.the-variants.{Paused, Lengths, Impossible}
+use Rattle.runs.specs.declared.records.Record.{Record}
+use Rattle.runs.specs.declared.calls.Outcome.{Outcome}
+use Rattle.runs.specs.declared.control.Control.{Control}
+use Rattle.runs.specs.Answers.{paused}
+use Rattle.runs.specs.Records.{possible}
+use Rattle.runs.specs.Steps.{State, at, Stepped, ended, next, step}
+use Rattle.runs.specs.Calls.{lengthsRight, Call, called}
+
+abbrev pub control : Record → ℕ → Answer → Control
+control c left a = record { rec = c; left = left; answer = a }
+
+-- A control state beside its memory and registers.
+pub record Seen : Type 0 where
+  pub bytes : ℕ
+  pub memory : ℕ
+  pub registers : List ℕ
+  pub control : Control
+
+abbrev pub seen : ℕ → ℕ → List ℕ → Control → Seen
+seen bytes m r c = record { bytes = bytes; memory = m; registers = r; control = c }
+
+abbrev pub stateIn : Seen → State
+stateIn v = at (v .bytes) (v .memory) (v .registers) (v .control .rec)
+
+-- Begin: 2 and 3.
+unfoldable pub beginning : ℕ → List ℕ → Record → ℕ → Control
+beginning bytes registers c budget =
+    cond (lengthsRight bytes (length registers)) (cond (possible bytes registers c) (control c budget Paused) (control c budget Impossible))
+    (control c budget Lengths)
+
+-- Step, with one more than k left of the budget: one step less is left, or an answer is known.
+abbrev pub turned : Stepped → Seen → ℕ → Seen
+turned (ended a) v k = seen (v .bytes) (v .memory) (v .registers) (control (v .control .rec) (suc k) a)
+turned (next t) v k = seen (t .bytes) (t .memory) (t .registers) (control (t .rec) k Paused)
+
+abbrev pub turnedAt : ℕ → Seen → Seen
+turnedAt zero v = v
+turnedAt (suc k) v = turned (step (stateIn v)) v k
+
+-- Step: none where an answer is known, nothing is left of the budget, or a length is wrong.
+unfoldable pub turn : Seen → Seen
+turn v = cond (paused (v .control .answer)) (cond (lengthsRight (v .bytes) (length (v .registers))) (turnedAt (v .control .left) v) v) v
+
+-- Step, so many times.
+abbrev pub turns : ℕ → Seen → Seen
+turns zero v = v
+turns (suc k) v = turns k (turn v)
+
+-- Finish.
+unfoldable pub finishing : Control → ℕ → Outcome
+finishing c budget = record { answer = c .answer; steps = budget - c .left; rec = c .rec }
+
+-- Begin at a state, and finish with what it has become: a call.
+abbrev pub beginAt : ℕ → State → Seen
+beginAt budget s = seen (s .bytes) (s .memory) (s .registers) (beginning (s .bytes) (s .registers) (s .rec) budget)
+
+abbrev pub finishAt : ℕ → Seen → Call
+finishAt budget v = called (v .bytes) (v .memory) (v .registers) (finishing (v .control) budget)

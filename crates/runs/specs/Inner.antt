@@ -1,0 +1,72 @@
+-- What the contracts of private functions cite; nothing here is part of a public contract. Assumes nothing.
+use mathlib.Core.Path.{_≡_}
+use mathlib.Core.Bool.{Bool, true, false, cond, _&&_}
+use mathlib.Core.List.{List}
+use Prim.Native.Nat.{ℕ, _+_, _-_, _<_, _≤_}
+use lib.Dec.{ltb}
+use lib.ListN.{length}
+use Rattle.fields.specs.Bytes.{num}
+use Rattle.fields.specs.Memory.{rightLength}
+use Rattle.instructions.specs.declared.operands.Operands.{Operands}
+use Rattle.instructions.specs.Verdict.{verdictOf}
+use Rattle.instructions.specs.Items.{worked}
+use Rattle.instructions.specs.Instruction.{byItems, countOf, worksOf}
+use Rattle.runs.specs.declared.answers.Answer.the-variants.{Paused}
+use Rattle.runs.specs.declared.records.Record.{Record}
+use Rattle.runs.specs.declared.control.Control.{Control}
+use Rattle.runs.specs.declared.performs.Performed.{Performed}
+use Rattle.runs.specs.declared.performs.Performed.the-variants.{Did, Ended}
+use Rattle.runs.specs.Answers.{paused}
+use Rattle.runs.specs.Steps.{State, at, ended, next, step, strides, after}
+use Rattle.runs.specs.Calls.{Stopped, iterate, Sound}
+use Rattle.runs.specs.Controls.{control, Seen, stateIn}
+
+-- A word that no check refuses, of which `done` items are done and not all, in a memory that may be lent.
+pub record Goes (bytes : ℕ) (c : Record) (word : ℕ) (o : Operands) (done : ℕ) : Type 0 where
+  pub lent : rightLength bytes ≡ true
+  pub passes : verdictOf (c .p) word o bytes ≡ 0
+  pub of-items : byItems word ≡ true
+  pub more : done < countOf word o
+
+-- What working items i, .., i + j - 1 of a word gives.
+pub record Bursts (m : List ℕ) (c : Record) (word : ℕ) (o : Operands) (i j : ℕ) (m' : List ℕ) (r : Performed) : Type 0 where
+  pub as-long : length m' ≡ length m
+  pub memory : num m' ≡ worksOf word o (length m) i j (worked (num m) (c .flags)) .memory
+  pub did : r ≡ Did (after (countOf word o) word (i + j) (c .p) (worksOf word o (length m) i j (worked (num m) (c .flags)) .flags)) j
+
+-- What doing at most `most` steps of one instruction gives: steps of the definition, one or more, or the definition's answer and no change.
+abbrev pub Performs : State → ℕ → ℕ → ℕ → List ℕ → Performed → Type 0
+Performs s most bytes m r (Did c j) = (0 < j) × ((j ≤ most) × (strides j s ≡ next (at bytes m r c)))
+Performs s most bytes m r (Ended a) = (step s ≡ ended a) × ((bytes ≡ s .bytes) × ((m ≡ s .memory) × (r ≡ s .registers)))
+
+-- No more steps were done than are left.
+abbrev pub Within : ℕ → Performed → Type 0
+Within left (Did c j) = j ≤ left
+Within left (Ended a) = Unit {0}
+
+-- The control state after steps of one instruction, or with its answer.
+abbrev pub counted : Record → ℕ → Performed → Control
+counted c left (Did d j) = control d (left - j) Paused
+counted c left (Ended a) = control c left a
+
+-- Is there a step to do?
+abbrev pub mayGo : Control → Bool
+mayGo c = paused (c .answer) && ltb 0 (c .left)
+
+-- Where a control state leads.
+unfoldable pub resume : Seen → Stopped
+resume v =
+    cond (paused (v .control .answer)) (iterate (v .control .left) (stateIn v))
+    (record { state = stateIn v; answer = v .control .answer; left = v .control .left })
+
+-- A control state after some steps leads where it led; less is left, or an answer is known; and it is sound where no answer is known.
+pub record Advanced (v w : Seen) : Type 0 where
+  pub same : resume w ≡ resume v
+  pub most : w .control .left ≤ v .control .left
+  pub less : paused (w .control .answer) ≡ true → w .control .left < v .control .left
+  pub sound : paused (w .control .answer) ≡ true → Sound (stateIn w)
+
+-- A control state for which nothing is left to do, where another led.
+pub record Gone (v w : Seen) : Type 0 where
+  pub same : resume w ≡ resume v
+  pub over : mayGo (w .control) ≡ false

@@ -1,0 +1,73 @@
+// As many steps as the budget allows. A word is read and judged once for all the steps that it takes in one call.
+ghost use mathlib.Core.Path.{_≡_};
+ghost use mathlib.Core.Bool.{true};
+ghost use Prim.Native.Nat.{_<_};
+ghost use lib.ListN.{length};
+ghost use Rattle.fields.specs.Bytes.{num};
+ghost use Rattle.runs.specs.Answers.{paused};
+ghost use Rattle.runs.specs.Calls.{Sound};
+ghost use Rattle.runs.specs.Controls.{seen, stateIn};
+ghost use Rattle.runs.specs.Inner.{Within, counted, mayGo, Advanced, Gone};
+use crate::answers::Answer;
+use crate::answers::is_paused;
+use crate::control::Control;
+use crate::performs::Performed;
+use crate::performs::perform;
+use crate::records::Record;
+
+// The control state after steps of one instruction, or with its answer.
+pub fn counted(rec: Record, left: u32, got: Performed) -> Control
+    requires { ⌜ Within left got ⌝ }
+    ensures { λ c. ⌜ c ≡ counted rec left got ⌝ }
+{
+    match got {
+        Performed::Did { rec: then, steps } => {
+            let rest = left - steps;
+            Control {
+                rec: then,
+                left: rest,
+                answer: Answer::Paused,
+            }
+        }
+        Performed::Ended(a) => Control {
+            rec: rec,
+            left: left,
+            answer: a,
+        },
+    }
+}
+
+// Steps of one instruction, as many as it has left or the budget allows.
+fn advance(c: Control, memory: &mut [u8], registers: &mut [u64]) -> Control
+    requires { ⌜ (0 < c .left) × (paused (c .answer) ≡ true) × Sound (stateIn (seen (length (now memory)) (num (now memory)) (now registers) c)) ⌝ }
+    ensures { λ d. ⌜ Advanced (seen (length (now (memory .entry))) (num (now (memory .entry))) (now (registers .entry)) c) (seen (length (now (memory .exit))) (num (now (memory .exit))) (now (registers .exit)) d) ⌝ }
+{
+    let rec = c.rec;
+    let left = c.left;
+    let got = perform(memory, registers, rec, left);
+    counted(rec, left, got)
+}
+
+// Is there a step to do?
+fn may_go(c: Control) -> bool
+    ensures { λ r. ⌜ r ≡ mayGo c ⌝ }
+{
+    let left = c.left;
+    let answer = c.answer;
+    if is_paused(answer) {
+        return 0 < left;
+    }
+    false
+}
+
+// As many steps as are left of the budget.
+pub fn go(c: Control, memory: &mut [u8], registers: &mut [u64]) -> Control
+    requires { ⌜ (paused (c .answer) ≡ true → Sound (stateIn (seen (length (now memory)) (num (now memory)) (now registers) c))) ⌝ }
+    ensures { λ d. ⌜ Gone (seen (length (now (memory .entry))) (num (now (memory .entry))) (now (registers .entry)) c) (seen (length (now (memory .exit))) (num (now (memory .exit))) (now (registers .exit)) d) ⌝ }
+{
+    let mut d = c;
+    while may_go(d) {
+        d = advance(d, memory, registers);
+    }
+    d
+}

@@ -1,0 +1,89 @@
+// What is checked before any step: 2, the lengths, and 3, the record.
+ghost use mathlib.Core.Path.{_≡_};
+ghost use lib.ListN.{length};
+ghost use Rattle.runs.specs.Records.{flagsRight, placeRight, betweenTwo, halfDone, possible};
+ghost use Rattle.runs.specs.Calls.{lengthsRight};
+use crate::records::Record;
+use crate::typed::verdict;
+use fields::memory::lent_length_is_right;
+use fields::units::ByteCount;
+use instructions::instruction::by_items;
+use instructions::instruction::count;
+use instructions::operands::gather;
+
+// Flags 42, 43 and 46.
+const FLAGS: u64 = 0x32_0000;
+
+pub fn lengths_right(bytes: usize, registers: usize) -> bool
+    ensures { λ r. ⌜ r ≡ lengthsRight bytes registers ⌝ }
+{
+    if lent_length_is_right(ByteCount(bytes as u64)) {
+        return registers == 256;
+    }
+    false
+}
+
+fn flags_right(flags: u64) -> bool
+    ensures { λ r. ⌜ r ≡ flagsRight flags ⌝ }
+{
+    flags | FLAGS == FLAGS
+}
+
+fn place_right(p: u64) -> bool
+    ensures { λ r. ⌜ r ≡ placeRight p ⌝ }
+{
+    if p < 0x1_0000_0000_0000 {
+        return p % 32 == 0;
+    }
+    false
+}
+
+fn between_two(rec: Record) -> bool
+    ensures { λ r. ⌜ r ≡ betweenTwo rec ⌝ }
+{
+    if rec.mark == 0 {
+        if rec.word == 0 {
+            return rec.items == 0;
+        }
+    }
+    false
+}
+
+// A vector, bit or move instruction that passes its checks, some of its items done and not all.
+pub fn half_done(rec: Record, bytes: u64, registers: &[u64]) -> bool
+    requires { ⌜ length (now registers) ≡ 256 ⌝ }
+    ensures { λ r. ⌜ r ≡ halfDone bytes (now (registers .entry)) rec ⌝ }
+{
+    let word = rec.word;
+    if rec.mark != 1 {
+        return false;
+    }
+    if !by_items(word) {
+        return false;
+    }
+    let o = gather(word, registers);
+    if verdict(rec.p, word, o, bytes) != 0 {
+        return false;
+    }
+    if rec.items < 1 {
+        return false;
+    }
+    rec.items < count(word, o)
+}
+
+// One that a run can make.
+pub fn possible(rec: Record, bytes: u64, registers: &[u64]) -> bool
+    requires { ⌜ length (now registers) ≡ 256 ⌝ }
+    ensures { λ r. ⌜ r ≡ possible bytes (now (registers .entry)) rec ⌝ }
+{
+    if !place_right(rec.p) {
+        return false;
+    }
+    if !flags_right(rec.flags) {
+        return false;
+    }
+    if between_two(rec) {
+        return true;
+    }
+    half_done(rec, bytes, registers)
+}

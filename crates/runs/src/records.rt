@@ -1,0 +1,40 @@
+// The record: where a job stands between two calls.
+ghost use mathlib.Core.Path.{_≡_};
+ghost use Rattle.runs.specs.Records.{half, between};
+
+// Every bit pattern is a record; 3 refuses those that no run can make.
+pub struct Record {
+    pub p: u64,
+    pub mark: u64,
+    pub word: u64,
+    pub items: u64,
+    pub flags: u64,
+}
+
+impl Record {
+    // k items of the word at p are done, and not all.
+    pub fn half(p: u64, word: u64, k: u64, flags: u64) -> Record
+        ensures { λ r. ⌜ r ≡ half p word k flags ⌝ }
+    {
+        Record {
+            p: p,
+            mark: 1,
+            word: word,
+            items: k,
+            flags: flags,
+        }
+    }
+
+    // Between two instructions, at p.
+    pub fn between(p: u64, flags: u64) -> Record
+        ensures { λ r. ⌜ r ≡ between p flags ⌝ }
+    {
+        Record {
+            p: p,
+            mark: 0,
+            word: 0,
+            items: 0,
+            flags: flags,
+        }
+    }
+}

@@ -1,0 +1,31 @@
+// The record and the call hold plain numbers, so that every bit pattern is one; here they get their units before an instruction is asked.
+ghost use mathlib.Core.Path.{_≡_};
+ghost use lib.ListN.{length};
+ghost use Rattle.fields.specs.Bytes.{num};
+ghost use Rattle.instructions.specs.Fetch.{fetchOf, lengthOf};
+ghost use Rattle.instructions.specs.Verdict.{verdictOf};
+use fields::units::BitAddress;
+use fields::units::ByteCount;
+use instructions::operands::Operands;
+
+// The word at P.
+pub fn fetch(memory: &[u8], p: u64) -> u64
+    ensures { λ r. ⌜ r ≡ fetchOf (length (now (memory .entry))) (num (now (memory .entry))) p ⌝ }
+{
+    instructions::fetch::fetch(memory, BitAddress(p))
+}
+
+// What refuses it, or 0.
+pub fn verdict(p: u64, word: u64, o: Operands, bytes: u64) -> u64
+    ensures { λ r. ⌜ r ≡ verdictOf p word o bytes ⌝ }
+{
+    instructions::verdict::verdict(BitAddress(p), word, o, ByteCount(bytes))
+}
+
+// How far P moves past it.
+pub fn length_of(word: u64) -> u64
+    ensures { λ r. ⌜ r ≡ lengthOf word ⌝ }
+{
+    let bits = instructions::fetch::length_of(word);
+    bits.0
+}
