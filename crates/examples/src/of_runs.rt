@@ -119,7 +119,7 @@ pub fn move_and_refusals() {
     let done = calls::run(&mut m, &mut registers, Record::between(0x4000, 0), 9);
     tell(b"example 15", done);
     word(b"moved", get(&m, 24));
-    registers[0x11] = 0x0005_0000_0000_41C8;
+    registers[0x11] = 0x0005_0000_0000_41E0;
     let outside = calls::run(&mut m, &mut registers, Record::between(0x4000, 0), 9);
     tell(b"past the end", outside);
     registers[0x11] = 0x0005_0000_0000_4088;
