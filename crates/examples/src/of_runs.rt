@@ -48,17 +48,13 @@ fn word(what: &[u8], w: u64) {
 }
 
 // At 4000 a vector add of words, then exit. A has the inflow at 4080, B and C the storage at 4100: the result replaces its own source.
-fn reservoir(m: &mut [u8], registers: &mut [u64]) {
+fn reservoir(m: &mut [u8]) {
     put(m, 0, 0x8300_0010_0011_0011);
     put(m, 8, 0x0900_0000_0000_0000);
     put(m, 16, 5);
     put(m, 24, 7);
     put(m, 32, 100);
     put(m, 40, 200);
-    if registers.len() == 256 {
-        registers[0x10] = 0x0002_0000_0000_4080;
-        registers[0x11] = 0x0002_0000_0000_4100;
-    }
 }
 
 fn show(m: &[u8]) {
@@ -70,7 +66,9 @@ fn show(m: &[u8]) {
 pub fn reservoir_in_one_call() {
     let mut m = [0u8; 64];
     let mut registers = [0u64; 256];
-    reservoir(&mut m, &mut registers);
+    reservoir(&mut m);
+    registers[0x10] = 0x0002_0000_0000_4080;
+    registers[0x11] = 0x0002_0000_0000_4100;
     let r = calls::run(&mut m, &mut registers, Record::between(0x4000, 0), 10);
     tell(b"reservoir, one call", r);
     show(&m);
@@ -79,7 +77,9 @@ pub fn reservoir_in_one_call() {
 pub fn reservoir_cut() {
     let mut m = [0u8; 64];
     let mut registers = [0u64; 256];
-    reservoir(&mut m, &mut registers);
+    reservoir(&mut m);
+    registers[0x10] = 0x0002_0000_0000_4080;
+    registers[0x11] = 0x0002_0000_0000_4100;
     let first = calls::run(&mut m, &mut registers, Record::between(0x4000, 0), 1);
     tell(b"reservoir, first step", first);
     show(&m);
