@@ -1,4 +1,5 @@
 // 01's examples and the ends of the ranges, run. What is written is held to the file stdout, which was worked out by a model of its own.
+mod of_codes; // every listed code, and every refusal that its word can meet
 mod of_fields; // memory, extents, overlaps, and what compress, merge and mask read
 mod of_runs; // the reservoir job, a vector over its own word, a move, refusals
 mod of_numbers; // one word or two: 2C to 2E, 63, 67, 70 to 72, 76, 77, 7A to 7C, 8A
@@ -18,4 +19,5 @@ fn main() {
     of_runs::reservoir_cut();
     of_runs::over_its_own_word();
     of_runs::move_and_refusals();
+    of_codes::every_code();
 }

@@ -7,7 +7,7 @@ use runs::calls::Outcome;
 use runs::records::Record;
 
 // A word at byte k of the lent memory.
-fn put(m: &mut [u8], k: usize, word: u64) {
+pub fn put(m: &mut [u8], k: usize, word: u64) {
     if 8 <= m.len() {
         if k <= m.len() - 8 {
             bytes::put_word(m, k, word);
@@ -15,7 +15,7 @@ fn put(m: &mut [u8], k: usize, word: u64) {
     }
 }
 
-fn get(m: &[u8], k: usize) -> u64 {
+pub fn get(m: &[u8], k: usize) -> u64 {
     if 8 <= m.len() {
         if k <= m.len() - 8 {
             return bytes::word(m, k);
