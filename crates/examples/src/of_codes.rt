@@ -623,6 +623,35 @@ fn move_bytes() {
     case(0xF800_0029_002E_002A, 0x2A, 0xC000000004090);
 }
 
+// The left half of a 64-bit word stands in the last half word of memory, so the word is not all there: 4.
+fn cut_off(half_word: u64) {
+    let mut m = [0u8; 128];
+    let mut registers = [0u64; 256];
+    of_runs::put(&mut m, 120, half_word);
+    let r = calls::run(&mut m, &mut registers, Record::between(0x43E0, 0), 200);
+    tell(half_word, 0, 0, r);
+    io::write_all(STDOUT_FILENO, b"\n");
+}
+
+fn all_cut_off() {
+    cut_off(0x8300_0020);
+    cut_off(0x8700_0020);
+    cut_off(0x8A00_0020);
+    cut_off(0x9000_0020);
+    cut_off(0x9100_0020);
+    cut_off(0x9200_0020);
+    cut_off(0x9600_0020);
+    cut_off(0x9700_0020);
+    cut_off(0x9800_0020);
+    cut_off(0xB000_0020);
+    cut_off(0xB100_0020);
+    cut_off(0xB200_0020);
+    cut_off(0xB300_0020);
+    cut_off(0xB400_0020);
+    cut_off(0xB500_0020);
+    cut_off(0xF800_0020);
+}
+
 // All of them, family by family.
 pub fn every_code() {
     exit_and_codes_not_listed();
@@ -644,4 +673,5 @@ pub fn every_code() {
     branches_2();
     branches_3();
     move_bytes();
+    all_cut_off();
 }
