@@ -147,6 +147,14 @@ fn load_and_store() {
     case(0x7F18_1F30_0900_0000, 0x18, 0x4400);
 }
 
+// A register's count is its low 48, and addresses wrap at 2^48: three bytes or words before.
+fn counts_that_wrap() {
+    plain(0x1218_1230_0900_0000);
+    plain(0x131C_1211_0900_0000);
+    plain(0x7E1C_1230_0900_0000);
+    plain(0x7F1C_1211_0900_0000);
+}
+
 fn compress_merge_mask_1() {
     plain(0x1425_2627_0900_0000);
     plain(0x1525_2627_0900_0000);
@@ -656,6 +664,7 @@ fn all_cut_off() {
 pub fn every_code() {
     exit_and_codes_not_listed();
     load_and_store();
+    counts_that_wrap();
     compress_merge_mask_1();
     compress_merge_mask_2();
     two_words_to_one();
