@@ -11,5 +11,4 @@ pub mod Compared
 pub mod Furthest
 pub mod Cycled
 pub mod GatherMeaning
-pub mod Examples
 pub mod Corners

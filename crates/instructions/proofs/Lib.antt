@@ -18,7 +18,7 @@ pub mod VerdictWitness
 pub mod Outcomes
 pub mod AppliedOnce
 pub mod HalfRegisters
-pub mod BranchExamples
+pub mod Examples
 pub mod ByCode
 pub mod Held
 pub mod Addressed

@@ -1,4 +1,4 @@
--- The definitions that the contracts of `instructions` cite, in the order to read them.
+-- The definitions that the contracts of `instructions` cite, in the order to read them, and then 01's examples of them.
 pub mod Table
 pub mod Words
 pub mod Operands
@@ -14,3 +14,4 @@ pub mod Accepted
 pub mod Loops
 pub mod Planned
 pub mod Instruction
+pub mod Examples

@@ -7,4 +7,3 @@ pub mod Joins
 pub mod Rotations
 pub mod Exact
 pub mod Raised
-pub mod Examples

@@ -7,4 +7,3 @@ pub mod Whole
 pub mod Contract
 pub mod Shift
 pub mod Words
-pub mod Examples

@@ -1,0 +1,20 @@
+-- 01's examples hold of the definitions: one table, one statement, computed. Assumes nothing.
+use mathlib.Core.Path.{refl}
+use Rattle.numbers.specs.Twos.{signedAt}
+use Rattle.numbers.specs.Number.{coefficientAt, exponentAt, joinedAt}
+use Rattle.numbers.specs.Whole.{broughtToZero, wholeAt}
+use Rattle.numbers.specs.Contract.{narrowed, contractedAt, contractOf}
+use Rattle.numbers.specs.Shift.{rotated, movedRight, shiftOf}
+use Rattle.instructions.specs.Table.{found}
+use Rattle.instructions.specs.Operands.{named, gathered}
+use Rattle.instructions.specs.Branches.{less, compared, takenOf, branchOf}
+use Rattle.instructions.specs.Scalars.{scalarOf}
+use Rattle.instructions.specs.Items.{storedAt, madeAt, itemAt, flagsAt}
+use Rattle.instructions.specs.Plan.{shape, itemsOf}
+use Rattle.instructions.specs.Planned.{operationOf, planAt}
+use Rattle.instructions.specs.Instruction.{planOf, wholeOf}
+use Rattle.instructions.specs.Examples.{Each, examples}
+
+pub examples-hold : Each examples
+unfolding signedAt coefficientAt exponentAt joinedAt broughtToZero wholeAt narrowed contractedAt contractOf rotated movedRight shiftOf found named gathered less compared takenOf branchOf scalarOf storedAt madeAt itemAt flagsAt shape itemsOf operationOf planAt planOf wholeOf
+examples-hold = (refl, (refl, (refl, (refl, (refl, (refl, (refl, (refl, (refl, (refl, (refl, (refl, (refl, (refl, (refl, (refl, (refl, (refl, (refl, (refl, tt))))))))))))))))))))

@@ -1,0 +1,88 @@
+-- 01, Examples: those marked *, with 13 and 14, as one table. A row is an instruction, what it is given and what it comes to by the definitions of this crate: the
+-- operands are gathered from the registers, of which the first are given, and memory is 8 bytes. Assumes nothing.
+use mathlib.Core.Path.{_≡_}
+use mathlib.Core.Bool.{Bool, true, false, cond}
+use mathlib.Core.List.{List, [], _∷_}
+use Prim.Native.Nat.{ℕ, _+_, _*_, _^_}
+use Rattle.numbers.specs.Flags.{flag}
+use Rattle.fields.specs.Bytes.{num}
+use Rattle.instructions.specs.declared.effects.Outcome.{Outcome}
+use Rattle.instructions.specs.declared.effects.Effect.the-variants.{Register, HalfRegister}
+use Rattle.instructions.specs.declared.effects.Next.the-variants.{Following, Target}
+use Rattle.instructions.specs.Operands.{gathered}
+use Rattle.instructions.specs.Effects.{goesOn}
+use Rattle.instructions.specs.Scalars.{scalarOf}
+use Rattle.instructions.specs.Items.{Worked, worked}
+use Rattle.instructions.specs.Instruction.{countOf, wholeOf}
+
+-- 01, Examples: what a row has.
+pub data Row : Type 0 where
+  contracts : ℕ → ℕ → ℕ → ℕ → Row  -- 76, 77: the code, R, the half word that T becomes, the flags
+  rounds : ℕ → ℕ → ℕ → ℕ → Row  -- 70, 71, 72: the code, R, the word that T becomes, the flags
+  shifts : ℕ → ℕ → ℕ → Row  -- 8A: the items A, B and C
+  gathers : ℕ → ℕ → ℕ → ℕ → ℕ → ℕ → ℕ → Row  -- 14, 15, 16: the code, R's and S's bits from the left of a byte, r, s, n, T's bits likewise
+  branches : ℕ → ℕ → ℕ → Bool → Row  -- B0, B3: the word, A, C, taken or not
+
+-- 01, Instruction words: what a word comes to that takes one step.
+abbrev pub acts : ℕ → List ℕ → Outcome
+acts w registers = scalarOf w (gathered w registers) 8 0
+
+-- 01, Steps: memory and flags after all items of a word, on the memory m.
+abbrev pub works : ℕ → List ℕ → ℕ → Worked
+works w registers m = wholeOf w (gathered w registers) 8 (countOf w (gathered w registers)) (worked m 0)
+
+-- 01, Instruction words, format A: of a code, with R 01 and T 04.
+abbrev pub wordA : ℕ → ℕ
+wordA code = code * 2 ^ 56 + 0x00_01_00_04_0000_0000
+
+-- 01, Instruction words, format 7: of a code, with R 01, S 02 and T 03.
+abbrev pub word7 : ℕ → ℕ
+word7 code = code * 2 ^ 56 + 0x00_01_02_03_0000_0000
+
+-- 01, The machine that the job sees: "length in the left 16 bits, base address in the right 48".
+abbrev pub descriptor : ℕ → ℕ → ℕ
+descriptor length base = length * 2 ^ 48 + base
+
+-- 01, The machine that the job sees: memory that begins with three bytes; the others are zero.
+abbrev pub memory : ℕ → ℕ → ℕ → ℕ
+memory r s t = num (r ∷ s ∷ t ∷ 0 ∷ 0 ∷ 0 ∷ 0 ∷ 0 ∷ [])
+
+-- What a row says. 8A has G bits 3 and 4, so that A and B are registers, and one item. B0 and B3 have B 4000 and Y 3.
+abbrev pub Holds : Row → Type 0
+Holds (contracts code r t flags) = acts (wordA code) (0 ∷ r ∷ []) ≡ goesOn (HalfRegister 4 t) flags
+Holds (rounds code r t flags) = acts (wordA code) (0 ∷ r ∷ []) ≡ goesOn (Register 4 t) flags
+Holds (shifts a b c) = works 0x8A_18_00_01_00_02_00_03 (0 ∷ a ∷ b ∷ descriptor 1 0x4000 ∷ []) 0 ≡ worked c 0
+Holds (gathers code first second r s n t) =
+    works (word7 code) (0 ∷ descriptor r 0x4000 ∷ descriptor s 0x4008 ∷ descriptor n 0x4010 ∷ []) (memory first second 0) ≡ worked (memory first second t) 0
+Holds (branches w a c taken) =
+    acts w (0 ∷ a ∷ 0x4000 ∷ 0 ∷ 3 ∷ []) ≡ record { effect = Register 3 c; flags = 0; next = cond taken (Target (record { 0 = 0x4060 })) Following }
+
+-- What all rows of a table say.
+abbrev pub Each : List Row → Type 0
+Each [] = Unit {0}
+Each (r ∷ rs) = Holds r × Each rs
+
+-- 01, Examples 1 to 5, 7, 9 to 14.
+abbrev pub examples : List Row
+examples =
+    contracts 0x76 0x0000_000001000000 0x18000001 0
+    ∷ contracts 0x76 0x0000_FFFFFFFFFFFF 0x18FFFFFF 0
+    ∷ contracts 0x77 0x0000_FFFFFFFFFFFF 0x18000000 0
+    ∷ contracts 0x77 0x0000_000000800000 0x18000001 0
+    ∷ contracts 0x77 0x0000_FFFFFF800000 0x18000000 0
+    ∷ contracts 0x77 0x0000_7FFFFFFFFFFF 0x19400000 0
+    ∷ contracts 0x76 0x0057_7FFFFFFFFFFF 0x6F7FFFFF 0
+    ∷ contracts 0x77 0x0057_7FFFFFFFFFFF 0x70000000 (flag 42 + flag 46)
+    ∷ rounds 0x70 0xFFFF_FFFFFFFFFFFD 0x0000_FFFFFFFFFFFF 0
+    ∷ rounds 0x72 0xFFFF_FFFFFFFFFFFD 0x0000_FFFFFFFFFFFF 0
+    ∷ rounds 0x71 0xFFFF_FFFFFFFFFFFD 0x0000_FFFFFFFFFFFE 0
+    ∷ shifts 0x8000000000000001 0x01 3
+    ∷ shifts 0x8000000000000001 0xFF 0xC000000000000000
+    ∷ shifts 0x8000000000000001 0x40 0x8000000000000001
+    ∷ gathers 0x14 0b10110100 0b00000000 2 1 5 0b10100_000
+    ∷ gathers 0x15 0b1011_0000 0b01_000000 2 1 6 0b100111_00
+    ∷ gathers 0x16 0b101101_00 0b010010_00 2 1 6 0b100100_00
+    ∷ branches 0xB0_00_00_00_04_02_00_03 0 0x8000_000000000000 true
+    ∷ branches 0xB3_00_00_01_04_02_00_03 0x0000_FFFFFFFFFFFF 0x0000_FFFFFFFFFFFF true
+    ∷ branches 0xB3_08_00_01_04_02_00_03 0x0000_FFFFFFFFFFFF 0x0000_FFFFFFFFFFFF false
+    ∷ []
