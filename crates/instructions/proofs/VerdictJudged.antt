@@ -43,7 +43,7 @@ module _ (w : ℕ) (o : Operands) (n : ℕ) where
       (refusalOf (rowSays noFields (λ r. ofKind (kindOf r) w o) f) n))))
 
   listed-after : (r : Row) → decoded w ≡ Decoded.Listed r → after (foundIn w) ≡ listedOf r w o n
-  unfolding listedOf
+  unfolding listedOf refusalOf
   listed-after r e = let q = listed-passes w r .0 e in rw (q .0, q .1, q .2)
 
   refused-after : (why : Refusal) → decoded w ≡ Decoded.Refused why → after (foundIn w) ≡ numberOf why

@@ -3,22 +3,26 @@ use mathlib.Core.Bool.{Bool, true, false, cond, not, _&&_, _||_}
 use mathlib.Core.List.{List, [], _∷_}
 use Prim.Native.Nat.{ℕ, _%_}
 use lib.Dec.{eqb}
+use lib.ListN.{drop}
 use Rattle.fields.specs.declared.extents.Field.{Field}
 use Rattle.fields.specs.Extents.{aligned, inside, shares, inPlace}
 use Rattle.instructions.specs.declared.operands.Operands.{Operands}
 use Rattle.instructions.specs.declared.layout.Fields.{Fields}
 use Rattle.instructions.specs.declared.table.Row.{Row}
+use Rattle.instructions.specs.declared.table.Found.{Found}
+use Rattle.instructions.specs.declared.table.Found.the-variants.{At, Nothing}
 use Rattle.instructions.specs.Table.{namedOf, kindOf, exit}
 use Rattle.instructions.specs.Operands.{foundIn, rowSays}
 use Rattle.instructions.specs.Words.{notZero, missing}
 use Rattle.instructions.specs.Layout.{ofKind, fieldsOf}
 use Rattle.instructions.specs.Fetch.{longIn, unfetchedAt}
 
--- what is judged: the word at P, its operands, and the memory's length in bytes
+-- what is judged: the word at P, the row of its function, its fields, and the memory's length in bytes
 pub record Case : Type 0 where
   pub p : ℕ
   pub word : ℕ
-  pub operands : Operands
+  pub row : Found
+  pub fields : Fields
   pub bytes : ℕ
 
 -- ---- 4 to 7 and 1: the word
@@ -29,19 +33,19 @@ notInMemory c = unfetchedAt (c .p) (longIn (c .word)) (c .bytes)
 
 -- 5: "function not in the table"
 abbrev pub notListed : Case → Bool
-notListed c = rowSays true (λ r. false) (foundIn (c .word))
+notListed c = rowSays true (λ r. false) (c .row)
 
 -- 6: "a bit that is to be zero isn't"
 abbrev pub strayBit : Case → Bool
-strayBit c = rowSays false (λ r. notZero r (c .word)) (foundIn (c .word))
+strayBit c = rowSays false (λ r. notZero r (c .word)) (c .row)
 
 -- 7: "designator 00 (half word 00 or 01) where no meaning is given above"
 abbrev pub noMeaning : Case → Bool
-noMeaning c = rowSays false (λ r. missing (namedOf r) (c .word)) (foundIn (c .word))
+noMeaning c = rowSays false (λ r. missing (namedOf r) (c .word)) (c .row)
 
 -- 1: "09 is at P"
 abbrev pub exits : Case → Bool
-exits c = rowSays false (λ r. eqb (kindOf r) exit) (foundIn (c .word))
+exits c = rowSays false (λ r. eqb (kindOf r) exit) (c .row)
 
 -- ---- 8 to 11: the fields
 
@@ -72,34 +76,30 @@ pub record Check : Type 0 where
 abbrev pub check : ℕ → (Case → Bool) → Check
 check n p = record { number = n; refuses = p }
 
--- the fields of the instruction that is judged
-abbrev pub fieldsIn : Case → Fields
-fieldsIn c = fieldsOf (c .word) (c .operands)
-
 -- "Checked in this order: .. 1 and 4 to 11 at each instruction (1 after 4; a 09 with operands is 6)"
 abbrev pub checks : List Check
 checks =
     check 4 notInMemory ∷ check 5 notListed ∷ check 6 strayBit ∷ check 7 noMeaning ∷ check 1 exits ∷
-    check 8 (λ c. misaligned (fieldsIn c)) ∷ check 9 (λ c. fieldsIn c .short) ∷
-    check 10 (λ c. outside (fieldsIn c) (c .bytes)) ∷ check 11 (λ c. overlapping (fieldsIn c)) ∷ []
+    check 8 (λ c. misaligned (c .fields)) ∷ check 9 (λ c. c .fields .short) ∷
+    check 10 (λ c. outside (c .fields) (c .bytes)) ∷ check 11 (λ c. overlapping (c .fields)) ∷ []
 
 -- the number of the first that refuses, 0 if none does
 abbrev pub first : List Check → Case → ℕ
 first [] c = 0
 first (k ∷ ks) c = cond (k .refuses c) (k .number) (first ks c)
 
--- a case, of its four parts
+-- the word w at P with the operands o, in n bytes of memory
 abbrev pub case : ℕ → ℕ → Operands → ℕ → Case
-case p w o n = record { p = p; word = w; operands = o; bytes = n }
+case p w o n = record { p = p; word = w; row = foundIn w; fields = fieldsOf w o; bytes = n }
 
 -- the verdict; it depends on P, the word, the operands and the memory's length alone
 unfoldable pub verdictOf : ℕ → ℕ → Operands → ℕ → ℕ
 verdictOf p w o n = first checks (case p w o n)
 
--- 8 to 11 by themselves
-unfoldable pub refusalOf : Fields → ℕ → ℕ
-refusalOf f n = cond (misaligned f) 8 (cond (f .short) 9 (cond (outside f n) 10 (cond (overlapping f) 11 0)))
-
--- 1 and 8 to 11 of a word that is listed with this row
+-- 1 and 8 to 11 of the list, of a word that has this row
 unfoldable pub listedOf : Row → ℕ → Operands → ℕ → ℕ
-listedOf r w o n = cond (eqb (kindOf r) exit) 1 (refusalOf (ofKind (kindOf r) w o) n)
+listedOf r w o n = first (drop 4 checks) (record { p = 0; word = w; row = At r; fields = ofKind (kindOf r) w o; bytes = n })
+
+-- 8 to 11 of the list, of fields
+unfoldable pub refusalOf : Fields → ℕ → ℕ
+refusalOf f n = first (drop 5 checks) (record { p = 0; word = 0; row = Nothing; fields = f; bytes = n })

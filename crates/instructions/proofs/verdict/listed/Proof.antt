@@ -21,7 +21,7 @@ refusal-requires : tie.Need-refusal-requires
 refusal-requires c κs = search needs
 
 returns-2 : tie.Need-returns-2
-unfolding listedOf
+unfolding listedOf refusalOf
 returns-2 c = rw (← c .before .before .before .kind .ensures, ne-eqb _ _ (c .before .before .if1 .left)) (c .refusal .ensures ∙ ap (λ (f : Fields). refusalOf f (c .before .before .before .before .args .lent .0)) (c .before .of-kind .ensures))
 
 pub listed-spec : {M : Type 1} → statement M
