@@ -1,7 +1,5 @@
 -- A code picks its case: the one that it is equal to, or none.
 use mathlib.Core.Path.{_≡_, refl, sym, ap, ap₂, _∙_}
-use mathlib.Core.Logic.{_⊎_, ⊎-elim}
-use mathlib.Core.List.{List, [], _∷_, _++_}
 use Prim.Native.Nat.{ℕ, zero, suc, _+_, _-_, _≤_, _<_}
 use native.Mathlib.Omega.{arith}
 use borrow.Author.Tests.{ne-eqb}
@@ -14,22 +12,9 @@ use Rattle.instructions.specs.declared.effects.Effect.the-variants.{Noth
 use Rattle.instructions.specs.Operands.{codeIn}
 use Rattle.instructions.specs.Effects.{goesOn}
 use Rattle.instructions.specs.Branches.{branchOf}
+use Rattle.instructions.specs.Inner.{Past}
 use Rattle.instructions.specs.Scalars.{Case, toRegister, wordTo, halfTo, cases, byCode, scalarOf}
-
--- N, and k is the code of none of the cases
-abbrev pub Past : Type 0 → List Case → ℕ → Type 0
-Past N [] k = N
-Past N (c ∷ cs) k = Past (N × (k ≡ c .code → ⊥)) cs k
-
-past-left : (N : Type 0) (cs : List Case) (k : ℕ) → Past N cs k → N
-past-left N [] k p = p
-past-left N (c ∷ cs) k p = past-left (N × (k ≡ c .code → ⊥)) cs k p .0
-
-past : (N : Type 0) (cs ds : List Case) (k : ℕ) → Past N cs k → byCode k (cs ++ ds) ≡ byCode k ds
-past N [] ds k p = refl
-past N (c ∷ cs) ds k p =
-    let q : N × (k ≡ c .code → ⊥) = past-left (N × (k ≡ c .code → ⊥)) cs k p in
-    rw (ne-eqb k (c .code) (q .1)) (past (N × (k ≡ c .code → ⊥)) cs ds k p)
+use Rattle.instructions.proofs.TablePlaces.{past}
 
 module _ (w : ℕ) (o : Operands) (bytes x : ℕ) {k : ℕ} {r : Outcome} (code : k ≡ codeIn w) where
   -- a code that is known
@@ -51,10 +36,10 @@ module _ (w : ℕ) (o : Operands) (bytes x : ℕ) {k : ℕ} {r : Outcome} (code 
       go (suc (suc (suc (suc (suc (suc i)))))) l = absurd (omega arith)
 
   -- any other
-  pub nothing : Past (Unit {0}) (take 18 (cases w o bytes x)) k → (k ≡ 0xB0 → ⊥) × (k ≡ 0xB1 → ⊥) × (k ≡ 0xB2 → ⊥) × (k ≡ 0xB3 → ⊥) × (k ≡ 0xB4 → ⊥) × (k ≡ 0xB5 → ⊥) → r ≡ goesOn Nothing 0 → r ≡ scalarOf w o bytes x
+  pub nothing : Past (λ (c : Case). c .code) (Unit {0}) (take 18 (cases w o bytes x)) k → (k ≡ 0xB0 → ⊥) × (k ≡ 0xB1 → ⊥) × (k ≡ 0xB2 → ⊥) × (k ≡ 0xB3 → ⊥) × (k ≡ 0xB4 → ⊥) × (k ≡ 0xB5 → ⊥) → r ≡ goesOn Nothing 0 → r ≡ scalarOf w o bytes x
   nothing p n h =
       let e : byCode k (drop 18 (cases w o bytes x)) ≡ goesOn Nothing 0 = rw (ne-eqb k 0xB0 (n .0), ne-eqb k 0xB1 (n .1), ne-eqb k 0xB2 (n .2), ne-eqb k 0xB3 (n .3), ne-eqb k 0xB4 (n .4), ne-eqb k 0xB5 (n .5)) in
-      chosen {j = k} refl (h ∙ sym (past (Unit {0}) (take 18 (cases w o bytes x)) (drop 18 (cases w o bytes x)) k p ∙ e))
+      chosen {j = k} refl (h ∙ sym (past (λ (c : Case). c .code) (λ (c : Case). c .comes) (goesOn Nothing 0) k (Unit {0}) (take 18 (cases w o bytes x)) (drop 18 (cases w o bytes x)) p ∙ e))
 
 -- ---- what goes to T, by T's number and what was made
 

@@ -24,7 +24,8 @@ use Rattle.instructions.specs.declared.table.Found.{Found}
 use Rattle.instructions.specs.Table.{kindOf, branch, loadByte, storeByte, loadWord, storeWord, compress, merge, mask, twoSources, oneSource, halfResult, move}
 use Rattle.instructions.specs.Operands.{foundIn, rowSays, gBit}
 use Rattle.instructions.specs.Layout.{lengthIn, baseIn, indexed, fieldsAt, noFields, sourceOf, shortOf, controlOf, resultOf, vectorOf, runsOf, zerosOf, compressOf, wovenOf, mergeOf, maskOf, moveOf, branchOf, ofKind, fieldsOf}
-use Rattle.instructions.specs.Verdict.{misaligned, outside, overlapping, refusalOf}
+use Rattle.instructions.specs.Verdict.{misaligned, outside, overlapping}
+use Rattle.instructions.specs.Inner.{refusalOf}
 
 abbrev Bare : Field → Type 0
 Bare f = f .bits .0 ≡ 0

@@ -16,7 +16,8 @@ use Rattle.instructions.specs.Words.{notZero, missing, numberOf, decoded
 use Rattle.instructions.proofs.WordsOrder.{refused-5, refused-6, refused-7, listed-passes}
 use Rattle.instructions.specs.Layout.{noFields, ofKind, fieldsOf}
 use Rattle.instructions.specs.Fetch.{longIn, unfetchedAt}
-use Rattle.instructions.specs.Verdict.{misaligned, outside, overlapping, refusalOf, listedOf, verdictOf}
+use Rattle.instructions.specs.Verdict.{misaligned, outside, overlapping, verdictOf}
+use Rattle.instructions.specs.Inner.{refusalOf, listedOf}
 
 -- ---- 8 to 11, over four tests, so that no rewriting looks into a record
 

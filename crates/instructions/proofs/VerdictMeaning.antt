@@ -19,7 +19,7 @@ use Rattle.fields.proofs.FieldMeaning.{Multiple, aligned-multiple, inside-ends,
 use Rattle.instructions.specs.declared.operands.Operands.{Operands}
 use Rattle.instructions.specs.declared.layout.Fields.{Fields}
 use Rattle.instructions.specs.Layout.{fieldsOf}
-use Rattle.instructions.specs.Verdict.{checks, case, misaligned, outside, clash, overlapping, refusalOf, verdictOf}
+use Rattle.instructions.specs.Verdict.{checks, case, misaligned, outside, clash, overlapping, verdictOf}
 use Rattle.instructions.proofs.VerdictTests.{never, both-true, both-false, and-not}
 use Rattle.instructions.proofs.VerdictOrder.{Passes, end, next, verdict-none}
 

@@ -1,11 +1,10 @@
 -- The register instructions, in the order of 01's table. o has the values of the registers before the instruction: R, S and T are g, x and a.
 -- Assumes nothing.
 use mathlib.Core.Path.{_≡_}
-use mathlib.Core.Bool.{true, false, cond}
+use mathlib.Core.Bool.{true, false}
 use mathlib.Core.List.{List, [], _∷_}
 use Prim.Native.Nat.{ℕ}
 use lib.Bits.{bitAnd, bitOr, bitXor}
-use lib.Dec.{eqb}
 use Rattle.fields.specs.declared.units.BitAddress.{BitAddress}
 use Rattle.fields.specs.Field.{field, store}
 use Rattle.fields.specs.Memory.{fieldIn, Aligned}
@@ -18,6 +17,7 @@ use Rattle.numbers.specs.Words.{sumOf, differenceOf, exponentWord, packedOf, le
 use Rattle.instructions.specs.declared.operands.Operands.{Operands}
 use Rattle.instructions.specs.declared.effects.Outcome.{Outcome}
 use Rattle.instructions.specs.declared.effects.Effect.the-variants.{Nothing, Register, HalfRegister, Byte, Word}
+use Rattle.instructions.specs.Table.{lookUp}
 use Rattle.instructions.specs.Operands.{codeIn}
 use Rattle.instructions.specs.Effects.{goesOn}
 use Rattle.instructions.specs.Branches.{branchOf}
@@ -101,8 +101,7 @@ cases w o n x =
 
 -- The case of the code k. Any other code has no effect here.
 abbrev pub byCode : ℕ → List Case → Outcome
-byCode k [] = goesOn Nothing 0
-byCode k (c ∷ cs) = cond (eqb k (c .code)) (c .comes) (byCode k cs)
+byCode k cs = lookUp (λ c. c .code) (λ c. c .comes) (goesOn Nothing 0) k cs
 
 -- 01, table: what the register instruction w comes to, in a memory of n bytes that is the number x.
 unfoldable pub scalarOf : ℕ → Operands → ℕ → ℕ → Outcome

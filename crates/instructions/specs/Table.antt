@@ -1,5 +1,4 @@
 -- The one constant table of function codes, and how a code is looked up. Assumes nothing.
-use mathlib.Core.Path.{_≡_}
 use mathlib.Core.Bool.{Bool, cond, _||_}
 use mathlib.Core.List.{List, [], _∷_}
 use Prim.Native.Nat.{ℕ, _+_, _-_, _*_, _^_}
@@ -159,21 +158,15 @@ vector f = eqb f 0x1
 abbrev pub zeroBits : Row → ℕ
 zeroBits r = bitOr (zeroOf r) (cond (long (formatOf r)) ((0xFF - allowedOf r) * 2 ^ 48) 0xFFFF_FFFF)
 
+-- what is said of the first x that has the code k; `none` where no x has it
+abbrev pub lookUp : {A B : Type 0} → (A → ℕ) → (A → B) → B → ℕ → List A → B
+lookUp code says none k [] = none
+lookUp code says none k (x ∷ xs) = cond (eqb k (code x)) (says x) (lookUp code says none k xs)
+
 -- the first row with the code k
 abbrev pub find : ℕ → List Row → Found
-find k [] = Nothing
-find k (r ∷ rs) = cond (eqb k (codeOf r)) (At r) (find k rs)
+find k rs = lookUp codeOf (λ r. At r) Nothing k rs
 
 -- 01, 5: the row of a function, or that it is not in the table.
 unfoldable pub found : ℕ → Found
 found k = find k rows
-
--- N, and k is the code of none of the rows
-abbrev pub Past : Type 0 → List Row → ℕ → Type 0
-Past N [] k = N
-Past N (r ∷ rs) k = Past (N × (k ≡ codeOf r → ⊥)) rs k
-
--- what the cases of a look-up show: the row has the code and stands in the table, or no row has the code
-abbrev pub Stands : Found → ℕ → Type 0
-Stands (At r) k = (k ≡ codeOf r) × (At r ≡ find (codeOf r) rows)
-Stands Nothing k = Past (Unit {0}) rows k

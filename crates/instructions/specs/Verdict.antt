@@ -3,18 +3,15 @@ use mathlib.Core.Bool.{Bool, true, false, cond, not, _&&_, _||_}
 use mathlib.Core.List.{List, [], _∷_}
 use Prim.Native.Nat.{ℕ, _%_}
 use lib.Dec.{eqb}
-use lib.ListN.{drop}
 use Rattle.fields.specs.declared.extents.Field.{Field}
 use Rattle.fields.specs.Extents.{aligned, inside, shares, inPlace}
 use Rattle.instructions.specs.declared.operands.Operands.{Operands}
 use Rattle.instructions.specs.declared.layout.Fields.{Fields}
-use Rattle.instructions.specs.declared.table.Row.{Row}
 use Rattle.instructions.specs.declared.table.Found.{Found}
-use Rattle.instructions.specs.declared.table.Found.the-variants.{At, Nothing}
 use Rattle.instructions.specs.Table.{namedOf, kindOf, exit}
 use Rattle.instructions.specs.Operands.{foundIn, rowSays}
 use Rattle.instructions.specs.Words.{notZero, missing}
-use Rattle.instructions.specs.Layout.{ofKind, fieldsOf}
+use Rattle.instructions.specs.Layout.{fieldsOf}
 use Rattle.instructions.specs.Fetch.{longIn, unfetchedAt}
 
 -- what is judged: the word at P, the row of its function, its fields, and the memory's length in bytes
@@ -95,11 +92,3 @@ case p w o n = record { p = p; word = w; row = foundIn w; fields = fieldsOf w o;
 -- the verdict; it depends on P, the word, the operands and the memory's length alone
 unfoldable pub verdictOf : ℕ → ℕ → Operands → ℕ → ℕ
 verdictOf p w o n = first checks (case p w o n)
-
--- 1 and 8 to 11 of the list, of a word that has this row
-unfoldable pub listedOf : Row → ℕ → Operands → ℕ → ℕ
-listedOf r w o n = first (drop 4 checks) (record { p = 0; word = w; row = At r; fields = ofKind (kindOf r) w o; bytes = n })
-
--- 8 to 11 of the list, of fields
-unfoldable pub refusalOf : Fields → ℕ → ℕ
-refusalOf f n = first (drop 5 checks) (record { p = 0; word = 0; row = Nothing; fields = f; bytes = n })

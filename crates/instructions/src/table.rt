@@ -1,6 +1,7 @@
 // The one constant table: a row for each function code, and the row of a code in constant time.
 ghost use mathlib.Core.Path.{_≡_};
-ghost use Rattle.instructions.specs.Table.{codeOf, formatOf, namedOf, kindOf, vector, long, zeroBits, found, Stands};
+ghost use Rattle.instructions.specs.Table.{codeOf, formatOf, namedOf, kindOf, vector, long, zeroBits, found};
+ghost use Rattle.instructions.specs.Inner.{Stands};
 
 // The designators, each the bits of its place in a word: F R S T of 32 bits, which stand in the left half, and F G X A Y B Z C of 64.
 const R: u64 = 0x00FF_0000_0000_0000;

@@ -1,6 +1,7 @@
 // What refuses an instruction: the first of 01's numbers 4 to 11 and 1 that applies.
 ghost use mathlib.Core.Path.{_≡_};
-ghost use Rattle.instructions.specs.Verdict.{misaligned, outside, clash, overlapping, refusalOf, listedOf, verdictOf};
+ghost use Rattle.instructions.specs.Verdict.{misaligned, outside, clash, overlapping, verdictOf};
+ghost use Rattle.instructions.specs.Inner.{refusalOf, listedOf};
 use crate::fetch::is_long;
 use crate::fetch::unfetched;
 use crate::layout::Fields;

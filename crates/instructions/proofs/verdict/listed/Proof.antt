@@ -2,7 +2,7 @@
 use mathlib.Core.Path.{ap, _∙_}
 use borrow.Author.Needs.{needs}
 use borrow.Author.Tests.{eq-eqb, ne-eqb}
-use Rattle.instructions.specs.Verdict.{listedOf, refusalOf}
+use Rattle.instructions.specs.Inner.{listedOf, refusalOf}
 use Rattle.instructions.specs.declared.layout.Fields.{Fields}
 use Rattle.instructions.proofs.verdict.listed.Statement.{statement}
 use Rattle.instructions.proofs.verdict.listed.Tie as tie

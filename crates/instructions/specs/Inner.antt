@@ -1,0 +1,31 @@
+-- What private functions promise: the cases of the look-up, and parts of the verdict. Assumes nothing.
+use mathlib.Core.Path.{_≡_}
+use mathlib.Core.List.{List, [], _∷_}
+use Prim.Native.Nat.{ℕ}
+use lib.ListN.{drop}
+use Rattle.instructions.specs.declared.operands.Operands.{Operands}
+use Rattle.instructions.specs.declared.layout.Fields.{Fields}
+use Rattle.instructions.specs.declared.table.Row.{Row}
+use Rattle.instructions.specs.declared.table.Found.{Found}
+use Rattle.instructions.specs.declared.table.Found.the-variants.{At, Nothing}
+use Rattle.instructions.specs.Table.{codeOf, kindOf, rows, find}
+use Rattle.instructions.specs.Layout.{ofKind}
+use Rattle.instructions.specs.Verdict.{checks, first}
+
+-- N, and no x has the code k
+abbrev pub Past : {A : Type 0} → (A → ℕ) → Type 0 → List A → ℕ → Type 0
+Past code N [] k = N
+Past code N (x ∷ xs) k = Past code (N × (k ≡ code x → ⊥)) xs k
+
+-- what the cases of a look-up show: the row has the code and stands in the table, or no row has the code
+abbrev pub Stands : Found → ℕ → Type 0
+Stands (At r) k = (k ≡ codeOf r) × (At r ≡ find (codeOf r) rows)
+Stands Nothing k = Past codeOf (Unit {0}) rows k
+
+-- 1 and 8 to 11 of the list, of a word that has this row
+unfoldable pub listedOf : Row → ℕ → Operands → ℕ → ℕ
+listedOf r w o n = first (drop 4 checks) (record { p = 0; word = w; row = At r; fields = ofKind (kindOf r) w o; bytes = n })
+
+-- 8 to 11 of the list, of fields
+unfoldable pub refusalOf : Fields → ℕ → ℕ
+refusalOf f n = first (drop 5 checks) (record { p = 0; word = 0; row = Nothing; fields = f; bytes = n })
