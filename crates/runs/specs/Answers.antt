@@ -4,19 +4,21 @@ use mathlib.Core.Path.{_≡_}
 use mathlib.Core.Logic.{_⊎_}
 use mathlib.Core.Bool.{Bool, cond}
 use lib.Dec.{eqb}
+use Rattle.instructions.specs.declared.words.Refusal.{Refusal}
+use Rattle.instructions.specs.Words as Words
 use Rattle.runs.specs.declared.answers.Answer.{Answer}
 use Rattle.runs.specs.declared.answers.Answer.the-variants.{Paused, Exit, Lengths, Impossible, NotThere, NotListed, NotZero, Designator, Misaligned, Short, Outside, Shared}
 
--- 01, What a call says: "No."
+-- 01, What a call says: "No."; 5, 6 and 7 are those of the words.
 abbrev pub numberOf : Answer → ℕ
 numberOf Paused = 0
 numberOf Exit = 1
 numberOf Lengths = 2
 numberOf Impossible = 3
 numberOf NotThere = 4
-numberOf NotListed = 5
-numberOf NotZero = 6
-numberOf Designator = 7
+numberOf NotListed = Words.numberOf Refusal.NotListed
+numberOf NotZero = Words.numberOf Refusal.NotZero
+numberOf Designator = Words.numberOf Refusal.NoMeaning
 numberOf Misaligned = 8
 numberOf Short = 9
 numberOf Outside = 10
