@@ -12,12 +12,12 @@ use Rattle.fields.proofs.Lists.{num-inj}
 use Rattle.instructions.specs.Items.{worked}
 use Rattle.instructions.specs.Instruction.{countOf}
 use Rattle.runs.specs.declared.answers.Answer.{Answer}
-use Rattle.runs.specs.declared.answers.Answer.the-variants.{Paused, Lengths}
+use Rattle.runs.specs.declared.answers.Answer.the-variants.{Paused, Exit, Lengths}
 use Rattle.runs.specs.declared.calls.Outcome.{Outcome}
 use Rattle.runs.specs.declared.control.Control.{Control}
 use Rattle.runs.specs.Answers.{numberOf, paused, OfChecks}
 use Rattle.runs.specs.Records.{possible}
-use Rattle.runs.specs.Steps.{State, ended, next, heldAt, itemsAt, heldOperands, wordAt, step, strides}
+use Rattle.runs.specs.Steps.{State, ended, next, heldAt, itemsAt, heldOperands, wordAt, begun, step, strides}
 use Rattle.runs.specs.Calls.{lengthsRight, Sound, Refused, Call, call, called, afterwards, inParts, total, OneOrMore, run}
 use Rattle.runs.specs.Wholes.{firstItems, wholes, Partial, cutAt, Reached, whole, part}
 use Rattle.runs.specs.Controls.{Seen, seen, turns, beginAt, finishAt}
@@ -27,7 +27,7 @@ use Rattle.runs.proofs.Bursting.{holds-of}
 use Rattle.runs.proofs.Iterating.{no-stride, one-stride}
 use Rattle.runs.proofs.Ending.{lengths-wrong, not-possible, all-used, stopped, run-of, ran, run-split}
 use Rattle.runs.proofs.Answering.{stays, taken, says-0, all-steps, says-2, says-3, nothing-changed, says-checked, checked-says}
-use Rattle.runs.proofs.Starts.{blank, nothing-lent, blank-sound, blank-pauses, nothing-refused}
+use Rattle.runs.proofs.Starts.{blank, nothing-lent, blank-sound, blank-pauses, nothing-refused, adding, added, transmitting, exiting, computed}
 use Rattle.runs.proofs.Stepping.{stepping}
 use Rattle.runs.proofs.Wholeness.{steps-reach, steps-cut, steps-held}
 
@@ -198,12 +198,24 @@ pub not-idle-ended : (n : ℕ) (s : State) (a : Answer) → Sound s → step s �
 not-idle-ended n s a ok e same =
     false≢true (sym (step-answers s a e) ∙ sym (ap (λ (c : Call). paused (c .answer)) (same ∙ run-of (suc n) s _ (stopped 0 s a ok (omega arith) (no-stride s) e refl))))
 
+-- At a transmit with budget 1 it differs, and at an exit with any budget but 0.
+pub not-idle-here : call transmitting Paused 1 ≡ run 1 transmitting → ⊥
+not-idle-here = not-idle transmitting (begun transmitting) (computed .transmitting-sound) (computed .transmits) (computed .transmitting-moves)
+
+pub not-idle-exit : (n : ℕ) → call exiting Paused (suc n) ≡ run (suc n) exiting → ⊥
+not-idle-exit n = not-idle-ended n exiting Exit (computed .exiting-sound) (computed .exits)
+
 -- A run that does a whole vector in its first step, and only counts afterwards, differs wherever one item is not all of them.
 pub not-whole-first : (wrong : ℕ → State → Call) (s : State) → Sound s → Partial s 1
     → worked (wrong 1 s .state .memory) (wrong 1 s .state .rec .flags) ≡ firstItems (itemsAt s) s → (firstItems 1 s ≡ firstItems (itemsAt s) s → ⊥)
     → wrong 1 s ≡ run 1 s → ⊥
 not-whole-first wrong s ok h all differs same =
     differs (sym (ap (λ (c : Call). worked (c .state .memory) (c .state .rec .flags)) (same ∙ half-done s 1 ok h)) ∙ all)
+
+-- At a vector add of three words with budget 1 it differs.
+pub not-whole-first-here : (wrong : ℕ → State → Call)
+    → worked (wrong 1 adding .state .memory) (wrong 1 adding .state .rec .flags) ≡ firstItems (itemsAt adding) adding → wrong 1 adding ≡ run 1 adding → ⊥
+not-whole-first-here wrong all = not-whole-first wrong adding (computed .adding-sound) (computed .adding-partial) all (computed .adding-differs)
 
 -- A run that says that the whole budget was used differs where nothing is lent, and wherever the word at P ends the run.
 pub not-inventing : (wrong : ℕ → State → Call) → ((n : ℕ) (s : State) → wrong n s .steps ≡ n) → wrong 1 nothing-lent ≡ run 1 nothing-lent → ⊥
@@ -217,11 +229,23 @@ not-inventing-ended wrong says n s a ok e same =
     let f : suc n ≡ 0 = sym (says (suc n) s) ∙ ap (λ (c : Call). c .steps) (same ∙ run-of (suc n) s _ (stopped 0 s a ok (omega arith) (no-stride s) e refl)) in
     omega arith
 
+-- At an exit with any budget but 0 it differs.
+pub not-inventing-exit : (wrong : ℕ → State → Call) → ((n : ℕ) (s : State) → wrong n s .steps ≡ n) → (n : ℕ) → wrong (suc n) exiting ≡ run (suc n) exiting → ⊥
+not-inventing-exit wrong says n = not-inventing-ended wrong says n exiting Exit (computed .exiting-sound) (computed .exits)
+
 -- A run that fetches again after a pause differs wherever memory at P no longer holds the word.
 pub not-fetching-again : (wrong : ℕ → State → Call) (s : State) → Sound s → (s .rec .mark ≡ 0 → ⊥) → s .rec .items + 1 < countOf (s .rec .word) (heldOperands s)
     → wrong 1 s .state .rec .word ≡ wordAt s → (s .rec .word ≡ wordAt s → ⊥) → wrong 1 s ≡ run 1 s → ⊥
 not-fetching-again wrong s ok marked short fetches differs same =
     differs (sym (ap (λ (c : Call). c .state .rec .word) (same ∙ goes-on s 1 ok marked (omega arith) short)) ∙ fetches)
+
+-- One step of the add leads to a state where memory at P no longer holds the word, and where a run that fetches again differs.
+pub paused-over : run 1 adding ≡ call added Paused 1
+paused-over = half-done adding 1 (computed .adding-sound) (computed .adding-partial) ∙ ap (λ (s : State). call s Paused 1) (computed .adding-cut)
+
+pub not-fetching-again-here : (wrong : ℕ → State → Call) → wrong 1 added .state .rec .word ≡ wordAt added → wrong 1 added ≡ run 1 added → ⊥
+not-fetching-again-here wrong fetches =
+    not-fetching-again wrong added (computed .added-sound) (λ m. omega arith) (computed .added-short) fetches (computed .added-over)
 
 -- A run that starts a half-done vector afresh differs wherever it is not done with the next item: its record would hold one item done, and not two or more.
 pub not-afresh : (wrong : ℕ → State → Call) (s : State) → Sound s → (s .rec .mark ≡ 0 → ⊥) → s .rec .items + 1 < countOf (s .rec .word) (heldOperands s)
@@ -230,3 +254,7 @@ not-afresh wrong s ok marked short one same =
     let e : s .rec .items + 1 ≡ 1 = sym (ap (λ (c : Call). c .state .rec .items) (same ∙ goes-on s 1 ok marked (omega arith) short)) ∙ one in
     let some = holds-of _ _ _ (possible-marked (s .bytes) (s .registers) (s .rec) (ok .can) marked) .some in
     omega arith
+
+-- At the same state it differs.
+pub not-afresh-here : (wrong : ℕ → State → Call) → wrong 1 added .state .rec .items ≡ 1 → wrong 1 added ≡ run 1 added → ⊥
+not-afresh-here wrong one = not-afresh wrong added (computed .added-sound) (λ m. omega arith) (computed .added-short) one
