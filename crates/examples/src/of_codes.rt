@@ -1,6 +1,5 @@
 // Every listed code once and more, and every refusal that its word can meet: one instruction, then exit.
 use crate::of_runs;
-use libc::STDOUT_FILENO;
 use runs::answers;
 use runs::calls;
 use runs::calls::Outcome;
@@ -34,35 +33,25 @@ fn results(m: &mut [u8]) {
     of_runs::put(m, 120, 0x3333_3333_3333_3333);
 }
 
-fn hex(what: &[u8], value: u64, width: usize) {
-    io::write_all(STDOUT_FILENO, what);
-    io::print_hex(STDOUT_FILENO, value, width);
-}
-
-fn decimal(what: &[u8], value: u64) {
-    io::write_all(STDOUT_FILENO, what);
-    io::print_decimal(STDOUT_FILENO, value);
-}
-
 fn tell(word: u64, t: usize, v: u64, r: Outcome) {
-    hex(b"", word, 16);
-    hex(b" ", t as u64, 2);
-    hex(b" ", v, 16);
+    lines::hex(b"", word, 16);
+    lines::hex(b" ", t as u64, 2);
+    lines::hex(b" ", v, 16);
     let answer = r.answer;
     let rec = r.rec;
-    decimal(b": answer ", answers::number(answer));
-    decimal(b" steps ", r.steps as u64);
-    hex(b" P ", rec.p, 1);
-    hex(b" flags ", rec.flags, 6);
+    lines::decimal(b": answer ", answers::number(answer));
+    lines::decimal(b" steps ", r.steps as u64);
+    lines::hex(b" P ", rec.p, 1);
+    lines::hex(b" flags ", rec.flags, 6);
 }
 
 fn show(m: &[u8], register: u64) {
-    hex(b" T ", register, 16);
-    hex(b" C ", of_runs::get(m, 96), 16);
-    hex(b" ", of_runs::get(m, 104), 16);
-    hex(b" ", of_runs::get(m, 112), 16);
-    hex(b" ", of_runs::get(m, 120), 16);
-    io::write_all(STDOUT_FILENO, b"\n");
+    lines::hex(b" T ", register, 16);
+    lines::hex(b" C ", of_runs::get(m, 96), 16);
+    lines::hex(b" ", of_runs::get(m, 104), 16);
+    lines::hex(b" ", of_runs::get(m, 112), 16);
+    lines::hex(b" ", of_runs::get(m, 120), 16);
+    lines::text(b"\n");
 }
 
 // Register t holds v (register 0 is never read), the others as they are set here; then register 30 and the last four words are shown.
@@ -638,7 +627,7 @@ fn cut_off(half_word: u64) {
     of_runs::put(&mut m, 120, half_word);
     let r = calls::run(&mut m, &mut registers, Record::between(0x43E0, 0), 200);
     tell(half_word, 0, 0, r);
-    io::write_all(STDOUT_FILENO, b"\n");
+    lines::text(b"\n");
 }
 
 fn all_cut_off() {

@@ -7,21 +7,19 @@ use fields::units::BitCount;
 use fields::units::ByteCount;
 use fields::units::HalfWordCount;
 use fields::units::WordCount;
-use libc::STDOUT_FILENO;
 
 fn line(what: &[u8], value: u64) {
-    io::write_all(STDOUT_FILENO, what);
-    io::write_all(STDOUT_FILENO, b": ");
-    io::print_hex(STDOUT_FILENO, value, 1);
-    io::write_all(STDOUT_FILENO, b"\n");
+    lines::text(what);
+    lines::hex(b": ", value, 1);
+    lines::text(b"\n");
 }
 
 fn yes_or_no(what: &[u8], value: bool) {
-    io::write_all(STDOUT_FILENO, what);
+    lines::text(what);
     if value {
-        io::write_all(STDOUT_FILENO, b": yes\n");
+        lines::text(b": yes\n");
     } else {
-        io::write_all(STDOUT_FILENO, b": no\n");
+        lines::text(b": no\n");
     }
 }
 

@@ -1,25 +1,21 @@
 // Instructions on one word or two, without registers or memory.
-use libc::STDOUT_FILENO;
 use numbers::flags::HalfWordResult;
 use numbers::flags::WordResult;
 use numbers::number::Number;
 
 // A line's beginning: the code and what it is given.
 fn given(code: u64, word: u64) {
-    io::print_hex(STDOUT_FILENO, code, 2);
-    io::write_all(STDOUT_FILENO, b" ");
-    io::print_hex(STDOUT_FILENO, word, 16);
+    lines::hex(b"", code, 2);
+    lines::hex(b" ", word, 16);
 }
 
 // A line's end: the result and the flags that it sets.
 fn gives(result: u64, width: usize, flags: u64) {
-    io::write_all(STDOUT_FILENO, b": ");
-    io::print_hex(STDOUT_FILENO, result, width);
+    lines::hex(b": ", result, width);
     if 0 < flags {
-        io::write_all(STDOUT_FILENO, b" flags ");
-        io::print_hex(STDOUT_FILENO, flags, 6);
+        lines::hex(b" flags ", flags, 6);
     }
-    io::write_all(STDOUT_FILENO, b"\n");
+    lines::text(b"\n");
 }
 
 fn line_of_word(code: u64, word: u64, r: WordResult) {
@@ -34,8 +30,7 @@ fn line_of_half(code: u64, word: u64, r: HalfWordResult) {
 
 fn line_of_two(code: u64, r: u64, s: u64, t: u64) {
     given(code, r);
-    io::write_all(STDOUT_FILENO, b" ");
-    io::print_hex(STDOUT_FILENO, s, 16);
+    lines::hex(b" ", s, 16);
     gives(t, 16, 0);
 }
 

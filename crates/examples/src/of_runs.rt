@@ -1,6 +1,5 @@
 // Jobs that are run in one call and cut into calls of one step, side by side.
 use fields::bytes;
-use libc::STDOUT_FILENO;
 use runs::answers;
 use runs::calls;
 use runs::calls::Outcome;
@@ -28,23 +27,18 @@ pub fn get(m: &[u8], k: usize) -> u64 {
 fn tell(what: &[u8], r: Outcome) {
     let answer = r.answer;
     let rec = r.rec;
-    io::write_all(STDOUT_FILENO, what);
-    io::write_all(STDOUT_FILENO, b": answer ");
-    io::print_decimal(STDOUT_FILENO, answers::number(answer));
-    io::write_all(STDOUT_FILENO, b", steps ");
-    io::print_decimal(STDOUT_FILENO, r.steps as u64);
-    io::write_all(STDOUT_FILENO, b", P ");
-    io::print_hex(STDOUT_FILENO, rec.p, 1);
-    io::write_all(STDOUT_FILENO, b", items ");
-    io::print_decimal(STDOUT_FILENO, rec.items);
-    io::write_all(STDOUT_FILENO, b"\n");
+    lines::text(what);
+    lines::decimal(b": answer ", answers::number(answer));
+    lines::decimal(b", steps ", r.steps as u64);
+    lines::hex(b", P ", rec.p, 1);
+    lines::decimal(b", items ", rec.items);
+    lines::text(b"\n");
 }
 
 fn word(what: &[u8], w: u64) {
-    io::write_all(STDOUT_FILENO, what);
-    io::write_all(STDOUT_FILENO, b": ");
-    io::print_hex(STDOUT_FILENO, w, 16);
-    io::write_all(STDOUT_FILENO, b"\n");
+    lines::text(what);
+    lines::hex(b": ", w, 16);
+    lines::text(b"\n");
 }
 
 // At 4000 a vector add of words, then exit. A has the inflow at 4080, B and C the storage at 4100: the result replaces its own source.

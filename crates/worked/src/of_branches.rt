@@ -1,5 +1,12 @@
 // 000 3.1.2's chart of packed instructions, and 3.2.1.182's table of the order of numbers.
 use crate::jobs;
+use crate::jobs::Pair;
+use crate::printed::A;
+use crate::printed::B_ALIGNED;
+use crate::printed::MINUS_A;
+use crate::printed::MINUS_B_ALIGNED;
+use crate::printed::MINUS_S;
+use crate::printed::R_ALIGNED;
 use fields::memory;
 use fields::units::BitAddress;
 use runs::answers;
@@ -63,6 +70,54 @@ pub fn targets() {
     target(6);
     target(8);
     target(9);
+}
+
+// The sum of A and X goes to C, with A's left 16. Z is 00 and the condition is not met, so the exit behind is next.
+fn positive(word: u64) {
+    jobs::on_registers(
+        word,
+        b"000 3.1.4.6.3, A and -B aligned",
+        Pair(A, MINUS_B_ALIGNED),
+        0x12,
+    );
+}
+
+fn negative(word: u64) {
+    jobs::on_registers(
+        word,
+        b"000 3.1.4.6.3, B aligned and -A",
+        Pair(B_ALIGNED, MINUS_A),
+        0x12,
+    );
+}
+
+fn zero(word: u64) {
+    jobs::on_registers(
+        word,
+        b"000 3.1.4.5.3, r aligned and -s",
+        Pair(R_ALIGNED, MINUS_S),
+        0x12,
+    );
+}
+
+// A and X 00 supply machine zero, and the branch that is taken goes to the exit.
+fn machine_zero(word: u64) {
+    jobs::on_registers(
+        word,
+        b"000 3.2.1.182 and 3.1.7, A, X and Z 00",
+        Pair(0, 0x4040),
+        0x12,
+    );
+}
+
+pub fn sums() {
+    positive(0xB000_1110_0010_0012);
+    positive(0xB300_1110_0010_0012);
+    positive(0xB400_1110_0010_0012);
+    negative(0xB200_1110_0010_0012);
+    negative(0xB500_1110_0010_0012);
+    zero(0xB100_1110_0010_0012);
+    machine_zero(0xB000_0000_0011_0012);
 }
 
 // 1 where the branch is taken. A is the larger or the smaller number, X supplies zero, Z is the other.

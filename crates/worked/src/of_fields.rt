@@ -7,92 +7,52 @@ use fields::units::BitAddress;
 use runs::calls;
 use runs::records::Record;
 
-// R is A5C3 and S is 693C; T has 32 bits.
+// R, S and T are registers 10, 11 and 12, and exit follows.
+const COMPRESS: u64 = 0x1410_1112_0900_0000;
+
+const MERGE: u64 = 0x1510_1112_0900_0000;
+
+const MASK: u64 = 0x1610_1112_0900_0000;
+
+// Segments of eight bits, and a result of 28, so that four bits of the fourth segment are transferred.
+const R: u64 = 0x0008_0000_0000_4080;
+
+const S: u64 = 0x0008_0000_0000_4100;
+
+const T: u64 = 0x001C_0000_0000_4180;
+
+// Field R is A5C3 and field S is 693C.
 fn bit_field(word: u64, what: &[u8], r: u64, s: u64, t: u64) {
-    jobs::on_fields(
-        word,
-        what,
-        Descriptors(r, s, t),
-        Pair(0xA5C3_0000_0000_0000, 0),
-        Pair(0x693C_0000_0000_0000, 0),
-    );
+    let first = Pair(0xA5C3_0000_0000_0000, 0);
+    let second = Pair(0x693C_0000_0000_0000, 0);
+    jobs::on_fields(word, what, Descriptors(r, s, t), first, second);
 }
 
-// Segments of eight bits; of S2 four bits are transferred, as the figure has a portion of S2 left over.
+// The figure of merge, which has a portion of S2 left over, and what a length of zero does.
 pub fn bits() {
-    let r = 0x0008_0000_0000_4080;
-    let s = 0x0008_0000_0000_4100;
-    let t = 0x001C_0000_0000_4180;
     bit_field(
-        0x1510_1112_0900_0000,
+        MERGE,
         b"000 3.2.1.22 figure, R1 S1 R2 and part of S2",
-        r,
-        s,
-        t,
+        R,
+        S,
+        T,
     );
+    let t = 0x0010_0000_0000_4180;
     bit_field(
-        0x1410_1112_0900_0000,
+        COMPRESS,
         b"000 3.1.3.5, S length zero, zero R bits skipped",
-        r,
-        0x4100,
-        0x0010_0000_0000_4180,
-    );
-    bit_field(
-        0x1410_1112_0900_0000,
-        b"000 3.1.3.5, R length zero",
-        0x4080,
-        s,
-        t,
-    );
-    bit_field(
-        0x1410_1112_0900_0000,
-        b"000 3.1.3.5, T length zero",
-        r,
-        s,
-        0x4180,
-    );
-    bit_field(
-        0x1510_1112_0900_0000,
-        b"000 3.1.3.5, R length zero",
-        0x4080,
-        s,
-        t,
-    );
-    bit_field(
-        0x1510_1112_0900_0000,
-        b"000 3.1.3.5, S length zero",
-        r,
+        R,
         0x4100,
         t,
     );
-    bit_field(
-        0x1510_1112_0900_0000,
-        b"000 3.1.3.5, T length zero",
-        r,
-        s,
-        0x4180,
-    );
-    bit_field(
-        0x1610_1112_0900_0000,
-        b"000 3.1.3.5, R length zero",
-        0x4080,
-        s,
-        t,
-    );
-    bit_field(
-        0x1610_1112_0900_0000,
-        b"000 3.1.3.5, S length zero",
-        r,
-        0x4100,
-        t,
-    );
-    bit_field(
-        0x1610_1112_0900_0000,
-        b"000 3.1.3.5, T length zero",
-        r,
-        s,
-        0x4180,
-    );
+    bit_field(COMPRESS, b"000 3.1.3.5, R length zero", 0x4080, S, T);
+    bit_field(COMPRESS, b"000 3.1.3.5, T length zero", R, S, 0x4180);
+    bit_field(MERGE, b"000 3.1.3.5, R length zero", 0x4080, S, T);
+    bit_field(MERGE, b"000 3.1.3.5, S length zero", R, 0x4100, T);
+    bit_field(MERGE, b"000 3.1.3.5, T length zero", R, S, 0x4180);
+    bit_field(MASK, b"000 3.1.3.5, R length zero", 0x4080, S, T);
+    bit_field(MASK, b"000 3.1.3.5, S length zero", R, 0x4100, T);
+    bit_field(MASK, b"000 3.1.3.5, T length zero", R, S, 0x4180);
 }
 
 // A is the bytes C1 C2 C3, the B designator 40.

@@ -1,17 +1,29 @@
-// 000 3.1.4.3.1 and 3.1.4.3.2 print plus and minus one, normalized and not, as 32-bit and as 64-bit numbers.
+// Plus and minus one, which 000 3.1.4.3.1 and 3.1.4.3.2 print as 32-bit and as 64-bit numbers, and the table of contract.
 use crate::jobs;
 use crate::jobs::Descriptors;
 use crate::jobs::Pair;
+use crate::printed::MINUS_ONE;
+use crate::printed::PLUS_ONE;
 
-const PLUS_ONE: u64 = 0xFFD2_4000_0000_0000;
+// R is register 10 and T is register 12, and exit follows.
+const TRUNCATE: u64 = 0x7010_0012_0900_0000;
 
-const MINUS_ONE: u64 = 0xFFD1_8000_0000_0000;
+const FLOOR: u64 = 0x7110_0012_0900_0000;
 
-// 70, 71 and 72.
+const CEILING: u64 = 0x7210_0012_0900_0000;
+
+const EXPONENT: u64 = 0x7A10_0012_0900_0000;
+
+const LENGTH: u64 = 0x7C10_0012_0900_0000;
+
+fn one(word: u64, what: &[u8], operand: u64) {
+    jobs::on_registers(word, what, Pair(operand, 0), 0x12);
+}
+
 fn whole(what: &[u8], operand: u64) {
-    jobs::on_registers(0x7010_0012_0900_0000, what, Pair(operand, 0), 0x12);
-    jobs::on_registers(0x7110_0012_0900_0000, what, Pair(operand, 0), 0x12);
-    jobs::on_registers(0x7210_0012_0900_0000, what, Pair(operand, 0), 0x12);
+    one(TRUNCATE, what, operand);
+    one(FLOOR, what, operand);
+    one(CEILING, what, operand);
 }
 
 // A number that is an integer is its own truncate, floor and ceiling; the end cases are of the instructions' own sections.
@@ -23,176 +35,117 @@ pub fn wholes() {
     whole(b"000 3.1.4.3.2, indefinite", 0x7000_0000_0000_0000);
 }
 
-// Coefficients that 000 aligns by four places, here with the exponent -4. Floor shifts with sign, as an alignment does. Truncate and ceiling of a negative
-// coefficient complement, shift and complement, and each of the three steps is printed.
+// Coefficients that 000 aligns by four places, here with the exponent -4. Floor shifts with sign, as an alignment does. Truncate and ceiling of a
+// negative coefficient complement, shift and complement, and each of the three steps is printed.
 pub fn shifted_wholes() {
-    jobs::on_registers(
-        0x7110_0012_0900_0000,
-        b"000 3.1.4.6.3, B aligned",
-        Pair(0xFFFC_6FAC_3F5D_A5FA, 0),
-        0x12,
-    );
-    jobs::on_registers(
-        0x7110_0012_0900_0000,
-        b"000 3.1.4.6.3, -B aligned",
-        Pair(0xFFFC_9053_C0A2_5A06, 0),
-        0x12,
-    );
-    jobs::on_registers(
-        0x7110_0012_0900_0000,
-        b"000 3.1.4.5.3, r aligned",
-        Pair(0xFFFC_0000_0000_1001, 0),
-        0x12,
-    );
-    jobs::on_registers(
-        0x7110_0012_0900_0000,
-        b"000 3.1.4.5.3, -s aligned",
-        Pair(0xFFFC_FFFF_FFFF_EFFF, 0),
-        0x12,
-    );
-    jobs::on_registers(
-        0x7010_0012_0900_0000,
-        b"000 3.1.4.5.3, r aligned",
-        Pair(0xFFFC_0000_0000_1001, 0),
-        0x12,
-    );
-    jobs::on_registers(
-        0x7010_0012_0900_0000,
+    one(FLOOR, b"000 3.1.4.6.3, B aligned", 0xFFFC_6FAC_3F5D_A5FA);
+    one(FLOOR, b"000 3.1.4.6.3, -B aligned", 0xFFFC_9053_C0A2_5A06);
+    one(FLOOR, b"000 3.1.4.5.3, r aligned", 0xFFFC_0000_0000_1001);
+    one(FLOOR, b"000 3.1.4.5.3, -s aligned", 0xFFFC_FFFF_FFFF_EFFF);
+    one(TRUNCATE, b"000 3.1.4.5.3, r aligned", 0xFFFC_0000_0000_1001);
+    one(
+        TRUNCATE,
         b"000 3.1.4.5.3, -s, its magnitude aligned",
-        Pair(0xFFFC_FFFF_FFFF_EFFF, 0),
-        0x12,
+        0xFFFC_FFFF_FFFF_EFFF,
     );
-    jobs::on_registers(
-        0x7210_0012_0900_0000,
+    one(
+        CEILING,
         b"000 3.1.4.5.3, -s, its complement aligned",
-        Pair(0xFFFC_FFFF_FFFF_EFFF, 0),
-        0x12,
+        0xFFFC_FFFF_FFFF_EFFF,
     );
 }
 
-// 76 and 77 to half word 24, the left half of register 12.
+// T is half word 24, the left half of register 12.
 fn contract(what: &[u8], operand: u64) {
-    jobs::on_registers(0x7610_0024_0900_0000, what, Pair(operand, 0), 0x12);
-    jobs::on_registers(0x7710_0024_0900_0000, what, Pair(operand, 0), 0x12);
+    one(0x7610_0024_0900_0000, what, operand);
 }
 
-// A contracted number is the same number as a 32-bit one. 000 3.1.7 says which half of which register has which number.
+fn rounded(what: &[u8], operand: u64) {
+    one(0x7710_0024_0900_0000, what, operand);
+}
+
+// Two instructions, with plus one and minus one, to the two halves of register t.
+fn halves(word: u64, what: &[u8], t: usize) {
+    jobs::on_registers(word, what, Pair(PLUS_ONE, MINUS_ONE), t);
+}
+
+// A contracted number is the same number as a 32-bit one. Figure 1 says which half of which register has which number.
 pub fn contracts() {
     contract(b"000 3.1.4.3.2 to 3.1.4.3.1, +1 normalized", PLUS_ONE);
+    rounded(b"000 3.1.4.3.2 to 3.1.4.3.1, +1 normalized", PLUS_ONE);
     contract(b"000 3.1.4.3.2 to 3.1.4.3.1, -1 normalized", MINUS_ONE);
-    jobs::on_registers(
-        0x7610_0024_0900_0000,
-        b"000 3.2.1.119, -1 to minus one",
-        Pair(0x0000_FFFF_FFFF_FFFF, 0),
-        0x12,
-    );
-    jobs::on_registers(
-        0x7610_0024_0900_0000,
-        b"000 3.2.1.119, -2**24 to minus one",
-        Pair(0x0000_FFFF_FF00_0000, 0),
-        0x12,
-    );
-    jobs::on_registers(
+    rounded(b"000 3.1.4.3.2 to 3.1.4.3.1, -1 normalized", MINUS_ONE);
+    contract(b"000 3.2.1.119, -1 to minus one", 0x0000_FFFF_FFFF_FFFF);
+    contract(b"000 3.2.1.119, -2**24 to minus one", 0x0000_FFFF_FF00_0000);
+    halves(
         0x7610_0002_7611_0003,
         b"000 3.1.7 figure 1, half words 02 and 03",
-        Pair(PLUS_ONE, MINUS_ONE),
         0x01,
     );
-    jobs::on_registers(
+    halves(
         0x7610_0004_7611_0005,
         b"000 3.1.7 figure 1, half words 04 and 05",
-        Pair(PLUS_ONE, MINUS_ONE),
         0x02,
     );
-    jobs::on_registers(
+    halves(
         0x7710_00FE_7711_00FF,
         b"000 3.1.7 figure 1, half words FE and FF",
-        Pair(PLUS_ONE, MINUS_ONE),
         0x7F,
     );
 }
 
-fn contract_row(what: &[u8], operand: u64) {
-    jobs::on_registers(0x7610_0024_0900_0000, what, Pair(operand, 0), 0x12);
-}
-
 // The table of input exponents, both ends of each row, and 003's rule for the last row under 77.
 pub fn contract_table() {
-    contract_row(b"000 3.2.1.119, exponent 7FFF", 0x7FFF_1234_5678_9ABC);
-    contract_row(b"000 3.2.1.119, exponent 7000", 0x7000_1234_5678_9ABC);
-    contract_row(b"000 3.2.1.119, exponent 6FFF", 0x6FFF_1234_5678_9ABC);
-    contract_row(b"000 3.2.1.119, exponent 0058", 0x0058_1234_5678_9ABC);
-    contract_row(b"000 3.2.1.119, exponent 0057", 0x0057_1234_5678_9ABC);
-    contract_row(b"000 3.2.1.119, exponent FF78", 0xFF78_1234_5678_9ABC);
-    contract_row(b"000 3.2.1.119, exponent FF77", 0xFF77_1234_5678_9ABC);
-    contract_row(b"000 3.2.1.119, exponent 8000", 0x8000_1234_5678_9ABC);
+    contract(b"000 3.2.1.119, exponent 7FFF", 0x7FFF_1234_5678_9ABC);
+    contract(b"000 3.2.1.119, exponent 7000", 0x7000_1234_5678_9ABC);
+    contract(b"000 3.2.1.119, exponent 6FFF", 0x6FFF_1234_5678_9ABC);
+    contract(b"000 3.2.1.119, exponent 0058", 0x0058_1234_5678_9ABC);
+    contract(b"000 3.2.1.119, exponent 0057", 0x0057_1234_5678_9ABC);
+    contract(b"000 3.2.1.119, exponent FF78", 0xFF78_1234_5678_9ABC);
+    contract(b"000 3.2.1.119, exponent FF77", 0xFF77_1234_5678_9ABC);
+    contract(b"000 3.2.1.119, exponent 8000", 0x8000_1234_5678_9ABC);
+    rounded(b"003 #77, exponent FF77", 0xFF77_7FFF_FFFF_FFFF);
+    rounded(b"003 #77, exponent 8000", 0x8000_7FFF_FFFF_FFFF);
+}
+
+fn pack(what: &[u8], exponent: u64, coefficient: u64) {
     jobs::on_registers(
-        0x7710_0024_0900_0000,
-        b"003 #77, exponent FF77",
-        Pair(0xFF77_7FFF_FFFF_FFFF, 0),
-        0x12,
-    );
-    jobs::on_registers(
-        0x7710_0024_0900_0000,
-        b"003 #77, exponent 8000",
-        Pair(0x8000_7FFF_FFFF_FFFF, 0),
+        0x7B10_1112_0900_0000,
+        what,
+        Pair(exponent, coefficient),
         0x12,
     );
 }
 
 // Exponents, numbers made of their two parts, and lengths of descriptors that 000 prints.
 pub fn parts() {
-    jobs::on_registers(
-        0x7A10_0012_0900_0000,
-        b"000 3.1.4.3.2, +1 normalized",
-        Pair(PLUS_ONE, 0),
-        0x12,
-    );
-    jobs::on_registers(
-        0x7A10_0012_0900_0000,
+    one(EXPONENT, b"000 3.1.4.3.2, +1 normalized", PLUS_ONE);
+    one(
+        EXPONENT,
         b"000 3.1.4.3.2, exponent -28,672",
-        Pair(0x9000_0000_0000_0001, 0),
-        0x12,
+        0x9000_0000_0000_0001,
     );
-    jobs::on_registers(
-        0x7A10_0012_0900_0000,
+    one(
+        EXPONENT,
         b"000 3.1.4.3.2, exponent +28,671",
-        Pair(0x6FFF_0000_0000_0001, 0),
-        0x12,
+        0x6FFF_0000_0000_0001,
     );
-    jobs::on_registers(
-        0x7B10_1112_0900_0000,
+    pack(
         b"000 3.1.4.3.2, +1 normalized",
-        Pair(0x0000_FFFF_FFFF_FFD2, 0x0000_4000_0000_0000),
-        0x12,
+        0x0000_FFFF_FFFF_FFD2,
+        0x0000_4000_0000_0000,
     );
-    jobs::on_registers(
-        0x7B10_1112_0900_0000,
+    pack(
         b"000 3.1.4.3.2, -1 normalized",
-        Pair(0x0000_FFFF_FFFF_FFD1, 0x0000_8000_0000_0000),
-        0x12,
+        0x0000_FFFF_FFFF_FFD1,
+        0x0000_8000_0000_0000,
     );
-    jobs::on_registers(
-        0x7C10_0012_0900_0000,
-        b"000 3.2.1.176, register 06",
-        Pair(0x0008_0000_0000_3000, 0),
-        0x12,
-    );
-    jobs::on_registers(
-        0x7C10_0012_0900_0000,
-        b"000 3.2.1.208, register 08",
-        Pair(0x0006_0000_0002_0000, 0),
-        0x12,
-    );
-    jobs::on_registers(
-        0x7C10_0012_0900_0000,
-        b"000 3.2.1.208, register 09",
-        Pair(0x0004_0000_0003_0000, 0),
-        0x12,
-    );
+    one(LENGTH, b"000 3.2.1.176, register 06", 0x0008_0000_0000_3000);
+    one(LENGTH, b"000 3.2.1.208, register 08", 0x0006_0000_0002_0000);
+    one(LENGTH, b"000 3.2.1.208, register 09", 0x0004_0000_0003_0000);
 }
 
-// Two items, plus and minus one; half words are four to the two words shown.
+// Two items, plus and minus one.
 fn vector(word: u64, what: &[u8]) {
     let fields = Descriptors(0x0002_0000_0000_4080, 0, 0x0002_0000_0000_4180);
     jobs::on_fields(word, what, fields, Pair(PLUS_ONE, MINUS_ONE), Pair(0, 0));

@@ -2,6 +2,13 @@
 use crate::jobs;
 use crate::jobs::Descriptors;
 use crate::jobs::Pair;
+use crate::printed::A;
+use crate::printed::B_ALIGNED;
+use crate::printed::MINUS_A;
+use crate::printed::MINUS_B_ALIGNED;
+use crate::printed::MINUS_S;
+use crate::printed::MINUS_S_ALIGNED;
+use crate::printed::R_ALIGNED;
 
 // The four rows of each truth table, R 0011 and S 0101, sixteen times over.
 pub fn logic() {
@@ -17,25 +24,13 @@ fn sum(what: &[u8], r: u64, s: u64) {
 
 // Operands of one exponent, whose coefficients are added.
 pub fn sums() {
-    sum(
-        b"000 3.1.4.6.3, A and -B aligned",
-        0x0104_6FCB_807E_89F2,
-        0x0104_F905_3C0A_25A0,
-    );
-    sum(
-        b"000 3.1.4.6.3, B aligned and -A",
-        0x0104_06FA_C3F5_DA5F,
-        0x0104_9034_7F81_760E,
-    );
-    sum(
-        b"000 3.1.4.5.3, r aligned and -s",
-        0x0104_0000_0000_0100,
-        0x0104_FFFF_FFFF_FF00,
-    );
+    sum(b"000 3.1.4.6.3, A and -B aligned", A, MINUS_B_ALIGNED);
+    sum(b"000 3.1.4.6.3, B aligned and -A", B_ALIGNED, MINUS_A);
+    sum(b"000 3.1.4.5.3, r aligned and -s", R_ALIGNED, MINUS_S);
     sum(
         b"000 3.1.4.5.3, r and -s aligned",
-        0x0104_0000_0000_0100,
-        0x0104_FFFF_FFFF_FEFF,
+        R_ALIGNED,
+        MINUS_S_ALIGNED,
     );
 }
 
@@ -43,39 +38,31 @@ fn difference(what: &[u8], r: u64, s: u64) {
     jobs::on_registers(0x6710_1112_0900_0000, what, Pair(r, s), 0x12);
 }
 
+fn complement(what: &[u8], exponent: u64, s: u64) {
+    difference(what, exponent << 48, s);
+}
+
 // A complement is zero less the number.
 pub fn differences() {
-    difference(
+    complement(
         b"000 3.1.4.6.3, complement of B",
-        0x0100_0000_0000_0000,
+        0x0100,
         0x0100_6FAC_3F5D_A5FA,
     );
-    difference(
-        b"000 3.1.4.6.3, complement of A",
-        0x0104_0000_0000_0000,
-        0x0104_6FCB_807E_89F2,
-    );
-    difference(
-        b"000 3.1.4.6.3, B aligned less A",
-        0x0104_06FA_C3F5_DA5F,
-        0x0104_6FCB_807E_89F2,
-    );
-    difference(
-        b"000 3.1.4.6.3, -(B-A)",
-        0x0104_0000_0000_0000,
-        0x0104_972F_4377_506D,
-    );
-    difference(
+    complement(b"000 3.1.4.6.3, complement of A", 0x0104, A);
+    difference(b"000 3.1.4.6.3, B aligned less A", B_ALIGNED, A);
+    complement(b"000 3.1.4.6.3, -(B-A)", 0x0104, 0x0104_972F_4377_506D);
+    complement(
         b"000 3.1.4.5.3, complement of s",
-        0x0104_0000_0000_0000,
+        0x0104,
         0x0104_0000_0000_0100,
     );
-    difference(
+    complement(
         b"000 3.1.4.5.3, complement of s, interchanged",
-        0x0100_0000_0000_0000,
+        0x0100,
         0x0100_0000_0000_1001,
     );
-    difference(b"003 appendix F, -2965", 0, 0x0000_0000_0000_0B95);
+    complement(b"003 appendix F, -2965", 0, 0x0000_0000_0000_0B95);
 }
 
 // Two items of each source.
@@ -88,41 +75,49 @@ fn vector(word: u64, what: &[u8], a: Pair, b: Pair) {
     jobs::on_fields(word, what, fields, a, b);
 }
 
-// The same sums and differences as items; coefficients aligned by four places, with the digit that leaves the 48 bits; and 000's own count FE.
+fn add(what: &[u8], a: Pair, b: Pair) {
+    vector(0x8300_0010_0011_0012, what, a, b);
+}
+
+fn subtract(what: &[u8], a: Pair, b: Pair) {
+    vector(0x8700_0010_0011_0012, what, a, b);
+}
+
+fn shift(what: &[u8], a: Pair, count: u64) {
+    vector(0x8A00_0010_0011_0012, what, a, Pair(count, count));
+}
+
+// The same sums and differences as items.
 pub fn vectors() {
-    let a = Pair(0x0104_6FCB_807E_89F2, 0x0104_0000_0000_0100);
-    vector(
-        0x8300_0010_0011_0012,
+    let a = Pair(A, R_ALIGNED);
+    let b = Pair(B_ALIGNED, 0x0104_0000_0000_0000);
+    add(
         b"000 3.1.4.6.3 and 3.1.4.5.3, sums",
         a,
-        Pair(0x0104_F905_3C0A_25A0, 0x0104_FFFF_FFFF_FEFF),
+        Pair(MINUS_B_ALIGNED, MINUS_S_ALIGNED),
     );
-    let b = Pair(0x0104_06FA_C3F5_DA5F, 0x0104_0000_0000_0000);
-    vector(
-        0x8700_0010_0011_0012,
-        b"000 3.1.4.6.3 and 3.1.4.5.3, differences",
-        b,
-        a,
+    subtract(b"000 3.1.4.6.3 and 3.1.4.5.3, differences", b, a);
+    subtract(
+        b"003 #87 and appendix F, -2965 and -5",
+        Pair(0, 0),
+        Pair(0x0B95, 0x0005),
     );
+}
+
+// Coefficients aligned by four places, with the digit that leaves the 48 bits; and the documents' own count FE.
+pub fn shifts() {
     let negative = Pair(0x9053_C0A2_5A06_0000, 0xFFFF_FFFF_EFFF_0000);
-    vector(
-        0x8A00_0010_0011_0012,
+    let positive = Pair(0x6FAC_3F5D_A5FA_0000, 0x0000_0000_1001_0000);
+    let ends = Pair(0x8000_0000_0000_0000, 0x4000_0000_0000_0000);
+    shift(
         b"000 3.1.4.6.3 and 3.1.4.5.3, -B and -s aligned",
         negative,
-        Pair(0xFC, 0xFC),
+        0xFC,
     );
-    let positive = Pair(0x6FAC_3F5D_A5FA_0000, 0x0000_0000_1001_0000);
-    vector(
-        0x8A00_0010_0011_0012,
+    shift(
         b"000 3.1.4.6.3 and 3.1.4.5.3, B and r aligned",
         positive,
-        Pair(0xFC, 0xFC),
+        0xFC,
     );
-    let ends = Pair(0x8000_0000_0000_0000, 0x4000_0000_0000_0000);
-    vector(
-        0x8A00_0010_0011_0012,
-        b"000 3.2.1.49 and 003 #34, count FE",
-        ends,
-        Pair(0xFE, 0xFE),
-    );
+    shift(b"000 3.2.1.49 and 003 #34, count FE", ends, 0xFE);
 }
