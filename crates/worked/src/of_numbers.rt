@@ -35,8 +35,8 @@ pub fn wholes() {
     whole(b"000 3.1.4.3.2, indefinite", 0x7000_0000_0000_0000);
 }
 
-// Coefficients that 000 aligns by four places, here with the exponent -4. Floor shifts with sign, as an alignment does. Truncate and ceiling of a
-// negative coefficient complement, shift and complement, and each of the three steps is printed.
+// Coefficients that 000 aligns by four places, here with the exponent -4. Floor shifts with sign, as an alignment does. Ceiling, and truncate of a
+// negative coefficient, complement, shift and complement: the steps are printed, but for the last one of the ceiling of r.
 pub fn shifted_wholes() {
     one(FLOOR, b"000 3.1.4.6.3, B aligned", 0xFFFC_6FAC_3F5D_A5FA);
     one(FLOOR, b"000 3.1.4.6.3, -B aligned", 0xFFFC_9053_C0A2_5A06);
@@ -47,6 +47,11 @@ pub fn shifted_wholes() {
         TRUNCATE,
         b"000 3.1.4.5.3, -s, its magnitude aligned",
         0xFFFC_FFFF_FFFF_EFFF,
+    );
+    one(
+        CEILING,
+        b"000 3.1.4.5.3, r, its complement aligned",
+        0xFFFC_0000_0000_1001,
     );
     one(
         CEILING,
