@@ -11,4 +11,5 @@ pub mod Stepping
 pub mod Ending
 pub mod Answering
 pub mod Starts
+pub mod Lending
 pub mod Wholeness

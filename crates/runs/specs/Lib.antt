@@ -3,6 +3,7 @@ pub mod Answers
 pub mod Records
 pub mod Steps
 pub mod Calls
+pub mod Hosts
 pub mod Wholes
 pub mod Controls
 pub mod Inner

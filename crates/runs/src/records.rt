@@ -3,6 +3,7 @@ ghost use mathlib.Core.Path.{_≡_};
 ghost use Rattle.runs.specs.Records.{half, between};
 
 // Every bit pattern is a record; 3 refuses those that no run can make.
+#[repr(C)]
 pub struct Record {
     pub p: u64,
     pub mark: u64,

@@ -1,0 +1,31 @@
+-- `runs::host::packed` meets its contract: an answer's number is 11 or less, so it and the steps fit. Assumes nothing.
+use native.Mathlib.Omega.{arith}
+use Prim.Native.Nat.{_≤_}
+use borrow.Author.Needs.{needs}
+use Rattle.runs.specs.Hosts.{packed}
+use Rattle.runs.proofs.Lending.{number-most}
+use Rattle.runs.proofs.host.packed.Statement.{statement}
+use Rattle.runs.proofs.host.packed.Tie as tie
+
+cast-steps : tie.Need-cast-steps
+cast-steps c = search needs
+
+number-requires : tie.Need-number-requires
+number-requires c κs = search needs
+
+mul-result : tie.Need-mul-result
+mul-result c =
+    let most : c .number .result ≤ 11 = rw (c .number .ensures) (number-most (c .before .before .args .out .answer)) in
+    omega (arith, most)
+
+add-result : tie.Need-add-result
+add-result c =
+    let most : c .number .result ≤ 11 = rw (c .number .ensures) (number-most (c .before .before .args .out .answer)) in
+    omega (arith, most, c .before .struct-known .given)
+
+returns : tie.Need-returns
+unfolding packed
+returns c = rw (c .number .ensures)
+
+pub packed-spec : {M : Type 1} → statement M
+packed-spec = tie.close (tie.spec cast-steps number-requires mul-result add-result returns)

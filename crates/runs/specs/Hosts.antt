@@ -1,0 +1,22 @@
+-- What a call leaves to a host that lends its record. Assumes nothing.
+use Prim.Native.Nat.{ℕ, _+_, _*_, _^_}
+use Rattle.runs.specs.declared.answers.Answer.{Answer}
+use Rattle.runs.specs.Answers.{numberOf}
+use Rattle.runs.specs.Steps.{State}
+use Rattle.runs.specs.Calls.{Call}
+
+-- The result, 64 bits: the answer's number in the left 32, the steps in the right 32.
+unfoldable pub packed : Answer → ℕ → ℕ
+packed a steps = numberOf a * 2 ^ 32 + steps
+
+-- 01, The machine that the job sees: "in the outer call the record is lent to the run and holds the new state afterwards".
+pub record Lent : Type 0 where
+  pub state : State
+  pub result : ℕ
+
+abbrev pub lent : State → ℕ → Lent
+lent s r = record { state = s; result = r }
+
+-- What a call hands to such a host.
+abbrev pub handed : Call → Lent
+handed c = lent (c .state) (packed (c .answer) (c .steps))
