@@ -4,7 +4,7 @@ use mathlib.Core.Path.{_≡_, refl, sym, _∙_, ap}
 use mathlib.Core.Bool.{true, false, false≢true}
 use mathlib.Core.List.{List, [], _∷_}
 use mathlib.Core.Logic.{_↔_, _⊎_}
-use Prim.Native.Nat.{ℕ, suc, _+_, _<_}
+use Prim.Native.Nat.{ℕ, suc, _+_, _/_, _%_, _^_, _<_}
 use native.Mathlib.Omega.{arith}
 use lib.ListN.{length}
 use Rattle.fields.specs.Bytes.{num, Bytes}
@@ -15,10 +15,12 @@ use Rattle.runs.specs.declared.answers.Answer.{Answer}
 use Rattle.runs.specs.declared.answers.Answer.the-variants.{Paused, Exit, Lengths}
 use Rattle.runs.specs.declared.calls.Outcome.{Outcome}
 use Rattle.runs.specs.declared.control.Control.{Control}
+use Rattle.runs.specs.declared.records.Record.{Record}
 use Rattle.runs.specs.Answers.{numberOf, paused, OfChecks}
 use Rattle.runs.specs.Records.{possible}
-use Rattle.runs.specs.Steps.{State, ended, next, heldAt, itemsAt, heldOperands, wordAt, begun, step, strides}
+use Rattle.runs.specs.Steps.{State, ended, next, heldAt, itemsAt, heldOperands, wordAt, begun, step, strides, at}
 use Rattle.runs.specs.Calls.{lengthsRight, Sound, Refused, Call, call, called, afterwards, inParts, total, OneOrMore, run}
+use Rattle.runs.specs.Hosts.{Lent, lent, handed}
 use Rattle.runs.specs.Wholes.{firstItems, wholes, Partial, cutAt, Reached, whole, part}
 use Rattle.runs.specs.Controls.{Seen, seen, turns, beginAt, finishAt}
 use Rattle.runs.proofs.Numbered.{step-answers, later}
@@ -27,6 +29,7 @@ use Rattle.runs.proofs.Bursting.{holds-of}
 use Rattle.runs.proofs.Iterating.{no-stride, one-stride}
 use Rattle.runs.proofs.Ending.{lengths-wrong, not-possible, all-used, stopped, run-of, ran, run-split}
 use Rattle.runs.proofs.Answering.{stays, taken, says-0, all-steps, says-2, says-3, nothing-changed, says-checked, checked-says}
+use Rattle.runs.proofs.Lending.{packed-number, packed-steps, steps-most}
 use Rattle.runs.proofs.Starts.{blank, nothing-lent, blank-sound, blank-pauses, nothing-refused, adding, added, transmitting, exiting, computed}
 use Rattle.runs.proofs.Stepping.{stepping}
 use Rattle.runs.proofs.Wholeness.{steps-reach, steps-cut, steps-held}
@@ -157,7 +160,7 @@ one-outcome x m m' r r' o o' b b' p q =
       (ap (λ (c : Call). c .state .registers) e, ap (λ (c : Call). record { answer = c .answer; steps = c .steps; rec = c .state .rec }) e),
     )
 
--- The same of `Control::step`. Every other public function's contract is an equation with its result.
+-- The same of `Control::step`.
 pub one-step : (x : Seen) (m m' r r' : List ℕ) (d d' : Control) → Bytes m → Bytes m' → seen (length m) (num m) r d ≡ x → seen (length m') (num m') r' d' ≡ x
     → (m ≡ m') × ((r ≡ r') × (d ≡ d'))
 one-step x m m' r r' d d' b b' p q =
@@ -165,6 +168,24 @@ one-step x m m' r r' d d' b b' p q =
       num-inj m m' b b' (ap (λ (v : Seen). v .bytes) e) (ap (λ (v : Seen). v .memory) e),
       (ap (λ (v : Seen). v .registers) e, ap (λ (v : Seen). v .control) e),
     )
+
+-- The same of the outer call, `rawgunshet_run`: one memory, one list of registers, one record and one result. Every other public function's contract is an equation
+-- with its result.
+pub one-lent : (x : Lent) (m m' r r' : List ℕ) (c c' : Record) (v v' : ℕ) → Bytes m → Bytes m'
+    → lent (at (length m) (num m) r c) v ≡ x → lent (at (length m') (num m') r' c') v' ≡ x
+    → (m ≡ m') × ((r ≡ r') × ((c ≡ c') × (v ≡ v')))
+one-lent x m m' r r' c c' v v' b b' p q =
+    let e : lent (at (length m) (num m) r c) v ≡ lent (at (length m') (num m') r' c') v' = p ∙ sym q in (
+      num-inj m m' b b' (ap (λ (l : Lent). l .state .bytes) e) (ap (λ (l : Lent). l .state .memory) e),
+      (ap (λ (l : Lent). l .state .registers) e, (ap (λ (l : Lent). l .state .rec) e, ap (λ (l : Lent). l .result) e)),
+    )
+
+-- The outer call's result keeps both numbers: the answer's is in its left 32 bits, the steps are in its right 32, for every budget of 32 bits.
+pub lent-says : (n : ℕ) (s : State) → n < 2 ^ 32
+    → (handed (run n s) .result / 2 ^ 32 ≡ numberOf (run n s .answer)) × (handed (run n s) .result % 2 ^ 32 ≡ run n s .steps)
+lent-says n s fits =
+    let few : run n s .steps < 2 ^ 32 = omega (arith, fits, steps-most n s (run n s) (ran n s)) in
+    (packed-number (run n s .answer) (run n s .steps) few, packed-steps (run n s .answer) (run n s .steps) few)
 
 -- Begin, step as often as the budget says, and finish: the same as the one call.
 pub step-by-step : (n : ℕ) (s : State) → finishAt n (turns n (beginAt n s)) ≡ run n s
