@@ -4,7 +4,7 @@ use mathlib.Core.Path.{_≡_, refl, sym, _∙_, ap}
 use mathlib.Core.Bool.{true, false, false≢true}
 use mathlib.Core.List.{List, [], _∷_}
 use mathlib.Core.Logic.{_↔_, _⊎_}
-use Prim.Native.Nat.{ℕ, suc, _+_, _/_, _%_, _^_, _<_}
+use Prim.Native.Nat.{ℕ, suc, _+_, _*_, _/_, _%_, _^_, _<_}
 use native.Mathlib.Omega.{arith}
 use lib.ListN.{length}
 use Rattle.fields.specs.Bytes.{num, Bytes}
@@ -253,6 +253,21 @@ not-inventing-ended wrong says n s a ok e same =
 -- At an exit with any budget but 0 it differs.
 pub not-inventing-exit : (wrong : ℕ → State → Call) → ((n : ℕ) (s : State) → wrong n s .steps ≡ n) → (n : ℕ) → wrong (suc n) exiting ≡ run (suc n) exiting → ⊥
 not-inventing-exit wrong says n = not-inventing-ended wrong says n exiting Exit (computed .exiting-sound) (computed .exits)
+
+-- An outer call that does not store the next record differs wherever a step changes the record.
+pub not-forgetting : (s t : State) (m : ℕ) (r : List ℕ) (v : ℕ) → Sound s → step s ≡ next t → (s .rec ≡ t .rec → ⊥)
+    → lent (at (s .bytes) m r (s .rec)) v ≡ handed (run 1 s) → ⊥
+not-forgetting s t m r v ok e differs same =
+    differs (ap (λ (l : Lent). l .state .rec) (same ∙ ap handed (run-of 1 s _ (all-used t ok (one-stride s t e) refl))))
+
+-- An outer call whose result is the answer's number alone, without the steps, differs wherever a step is taken.
+pub not-number-alone : (s t u : State) → Sound s → step s ≡ next t → lent u (numberOf (run 1 s .answer) * 2 ^ 32) ≡ handed (run 1 s) → ⊥
+not-number-alone s t u ok e same =
+    let f : run 1 s ≡ call t Paused 1 = run-of 1 s _ (all-used t ok (one-stride s t e) refl) in
+    let g : numberOf (run 1 s .answer) * 2 ^ 32 % 2 ^ 32 ≡ 1 =
+    ap (λ (l : Lent). l .result % 2 ^ 32) same ∙ lent-says 1 s (omega arith) .1 ∙ ap (λ (c : Call). c .steps) f in
+    let h : _≡_ {A = ℕ} 0 1 = sym (ap (λ (c : Call). numberOf (c .answer) * 2 ^ 32 % 2 ^ 32) f) ∙ g in
+    omega arith
 
 -- A run that fetches again after a pause differs wherever memory at P no longer holds the word.
 pub not-fetching-again : (wrong : ℕ → State → Call) (s : State) → Sound s → (s .rec .mark ≡ 0 → ⊥) → s .rec .items + 1 < countOf (s .rec .word) (heldOperands s)

@@ -2,7 +2,7 @@
 ghost use mathlib.Core.Path.{_≡_};
 ghost use Rattle.runs.specs.Records.{half, between};
 
-// Every bit pattern is a record; 3 refuses those that no run can make.
+// Every bit pattern is a record; 3 refuses those that no run can make. A host in C lends these five numbers in this order.
 #[repr(C)]
 pub struct Record {
     pub p: u64,
