@@ -1,0 +1,2 @@
+-- The definitions that the contracts of `job` cite.
+pub mod Places
