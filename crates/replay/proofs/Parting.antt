@@ -1,0 +1,55 @@
+-- One call after others: what they come to together. Assumes nothing.
+use mathlib.Core.Path.{_≡_, refl, sym, _∙_, ap}
+use mathlib.Core.Bool.{Bool, true, false, _&&_}
+use mathlib.Core.List.{List}
+use Prim.Native.Nat.{ℕ, _+_, _<_, _≤_}
+use native.Mathlib.Omega.{arith}
+use lib.Dec.{ltb}
+use borrow.Author.Tests.{ltb-true, ltb-false}
+use Rattle.runs.specs.declared.calls.Outcome.{Outcome}
+use Rattle.runs.specs.Answers.{paused}
+use Rattle.runs.specs.Steps.{State, at}
+use Rattle.runs.specs.Calls.{Call, called, afterwards, run}
+use Rattle.runs.proofs.Ending.{Ran, lengths-wrong, not-possible, all-used, stopped, ran, run-split}
+use Rattle.runs.proofs.Theorems.{ended-stays}
+use Rattle.replay.specs.Parts.{goesOn, together}
+
+-- no call takes more steps than its budget
+pub no-more : (n : ℕ) (s : State) → run n s .steps ≤ n
+no-more n s = go (run n s) (ran n s)
+  where
+    go : (c : Call) → Ran n s c → c .steps ≤ n
+    go c (lengths-wrong _ e) = rw e (omega arith)
+    go c (not-possible _ _ e) = rw e (omega arith)
+    go c (all-used _ _ _ e) = rw e (omega arith)
+    go c (stopped _ _ _ _ low _ _ e) = rw e (omega arith)
+
+pub steps-of : (n : ℕ) (s : State) (b m : ℕ) (r : List ℕ) (o : Outcome) → called b m r o ≡ run n s → o .steps ≤ n
+steps-of n s b m r o e =
+    let f : o .steps ≡ run n s .steps = ap (λ (c : Call). c .steps) e in
+    omega (arith, no-more n s)
+
+-- there is a call to make exactly where the answer is 0 and steps are left
+pub goes : (o : Outcome) (left : ℕ) → goesOn o left ≡ true → 0 < left
+goes o left = go (paused (o .answer))
+  where
+    go : (p : Bool) → (p && ltb 0 left) ≡ true → 0 < left
+    go true e = ltb-true 0 left e
+    go false e =
+        let z : _≡_ {A = ℕ} 0 1 = cc in
+        absurd (omega arith)
+
+module _ (j : ℕ) (s : State) (b m : ℕ) (r : List ℕ) (o : Outcome) (e : called b m r o ≡ run j s) where
+  -- a call of k steps more, on what calls of j steps in all left
+  pub further : (k n b' m' : ℕ) (r' : List ℕ) (o' : Outcome) → 0 < k → j + k ≡ n → called b' m' r' o' ≡ run k (at b m r (o .rec)) → called b' m' r' (together o o') ≡ run n s
+  further k n b' m' r' o' some all f = ap (afterwards (called b m r o)) f ∙ sym (rw (sym e) at (run-split j k s some)) ∙ rw all
+
+  -- where no call is to be made, what is left would change nothing
+  pub over : (left n : ℕ) → j + left ≡ n → goesOn o left ≡ false → called b m r o ≡ run n s
+  over left n all = go (paused (o .answer)) refl
+    where
+      go : (p : Bool) → paused (o .answer) ≡ p → (p && ltb 0 left) ≡ false → called b m r o ≡ run n s
+      go true _ f =
+          let z : n ≡ j = omega (arith, all, ltb-false 0 left f) in
+          rw z e
+      go false p _ = e ∙ sym (ended-stays j left s (ap (λ (c : Call). paused (c .answer)) (sym e) ∙ p)) ∙ rw all

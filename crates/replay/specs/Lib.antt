@@ -1,0 +1,3 @@
+-- What the program's functions promise of each other.
+pub mod Parts
+pub mod Cases
