@@ -1,6 +1,6 @@
 -- One call after others: what they come to together. Assumes nothing.
 use mathlib.Core.Path.{_≡_, refl, sym, _∙_, ap}
-use mathlib.Core.Bool.{Bool, true, false, _&&_}
+use mathlib.Core.Bool.{Bool, true, false, false≢true, _&&_}
 use mathlib.Core.List.{List}
 use Prim.Native.Nat.{ℕ, _+_, _<_, _≤_}
 use native.Mathlib.Omega.{arith}
@@ -15,7 +15,7 @@ use Rattle.runs.proofs.Theorems.{ended-stays}
 use Rattle.replay.specs.Parts.{goesOn, together}
 
 -- no call takes more steps than its budget
-pub no-more : (n : ℕ) (s : State) → run n s .steps ≤ n
+no-more : (n : ℕ) (s : State) → run n s .steps ≤ n
 no-more n s = go (run n s) (ran n s)
   where
     go : (c : Call) → Ran n s c → c .steps ≤ n
@@ -24,20 +24,19 @@ no-more n s = go (run n s) (ran n s)
     go c (all-used _ _ _ e) = rw e (omega arith)
     go c (stopped _ _ _ _ low _ _ e) = rw e (omega arith)
 
+-- nor does what calls of n steps in all came to
 pub steps-of : (n : ℕ) (s : State) (b m : ℕ) (r : List ℕ) (o : Outcome) → called b m r o ≡ run n s → o .steps ≤ n
 steps-of n s b m r o e =
     let f : o .steps ≡ run n s .steps = ap (λ (c : Call). c .steps) e in
     omega (arith, no-more n s)
 
--- there is a call to make exactly where the answer is 0 and steps are left
+-- where there is a call to make, steps are left
 pub goes : (o : Outcome) (left : ℕ) → goesOn o left ≡ true → 0 < left
 goes o left = go (paused (o .answer))
   where
     go : (p : Bool) → (p && ltb 0 left) ≡ true → 0 < left
     go true e = ltb-true 0 left e
-    go false e =
-        let z : _≡_ {A = ℕ} 0 1 = cc in
-        absurd (omega arith)
+    go false e = absurd (false≢true e)
 
 module _ (j : ℕ) (s : State) (b m : ℕ) (r : List ℕ) (o : Outcome) (e : called b m r o ≡ run j s) where
   -- a call of k steps more, on what calls of j steps in all left

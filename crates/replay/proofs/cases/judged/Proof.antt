@@ -79,10 +79,14 @@ slice-relend-prefix-rest : tie.Need-slice-relend-prefix-rest
 slice-relend-prefix-rest c = search needs
 
 slice-aggregate-rest : tie.Need-slice-aggregate-rest
-slice-aggregate-rest c = sym (length-take-le (c .before .before .before .before .before .before .before .before .before .before .before .before .word2 .result) (c .before .before .before .before .before .before .before .before .before .before .before .before .before .before .before .before .before .before .args .registers .now) (omega arith))
+slice-aggregate-rest c =
+    let count-at = c .before .before .before .before .before .before .before .before .before .before .before .before in
+    sym (length-take-le (count-at .word2 .result) (count-at .before .before .before .before .before .before .args .registers .now) (omega arith))
 
 rest-requires : tie.Need-rest-requires
-rest-requires c κs = omega (arith, length-take-le (c .before .before .before .before .before .before .before .before .before .before .before .before .word2 .result) (c .before .before .before .before .before .before .before .before .before .before .before .before .before .before .before .before .before .before .args .registers .now) (omega arith))
+rest-requires c κs =
+    let count-at = c .before .before .before .before .before .before .before .before .before .before .before .before in
+    omega (arith, length-take-le (count-at .word2 .result) (count-at .before .before .before .before .before .before .args .registers .now) (omega arith))
 
 same-length-5 : tie.Need-same-length-5
 same-length-5 c = search needs

@@ -30,18 +30,11 @@ run-requires : tie.Need-run-requires Inv-loop μ-loop
 run-requires c κs = tt
 
 loop-holds : tie.Need-loop-holds Inv-loop μ-loop
-loop-holds c = (
-  refl,
-  (
-    refl,
-    (
-      omega arith,
-      λ j s e.
-          let z : j + ((c .before .before .before .before .before .before .before .before .before .before .args .budget - c .before .before .before .before .before .before .before .least .result) - (c .before .before .before .before .before .before .before .before .before .before .args .budget - c .before .before .before .before .before .before .before .least .result)) ≡ j = omega arith in
-          rw z e,
-    ),
-  ),
-)
+loop-holds c =
+    let least-at = c .before .before .before .before .before .before .before in
+    let left₀ = least-at .before .before .before .args .budget - least-at .least .result in
+    let none : (j : ℕ) → j + (left₀ - left₀) ≡ j = λ j. omega arith in
+    (refl, (refl, (omega arith, λ j s e. rw (none j) e)))
 
 goes-on-requires : tie.Need-goes-on-requires Inv-loop μ-loop
 goes-on-requires c κs = tt
@@ -54,33 +47,47 @@ run-requires-2 c κs = tt
 
 together-requires : tie.Need-together-requires Inv-loop μ-loop
 together-requires c κs =
-    let l = c .before .before .before .before .before .before .before .before .before .before .loop in
-    let first = steps-of _ _ _ _ _ _ (l .inv .1 .1 .1 _ _ (c .before .before .before .before .before .before .before .before .before .before .before .before .before .before .before .run .ensures)) in
+    let turn = c .before .before .before .before .before .before .before in
+    let loop-at = turn .before .before .before in
+    let l = loop-at .loop in
+    let least-at = loop-at .before .before .before .before .before .before .before .before in
+    let start = least-at .before .before .before in
+    let so-far = steps-of _ _ _ _ _ _ (l .inv .1 .1 .1 _ _ (loop-at .before .before .before .before .before .run .ensures)) in
     let last = steps-of _ _ _ _ _ _ (c .before .before .before .before .run2 .ensures) in
-    omega (arith, first, last, c .before .before .before .before .before .before .before .before .before .before .before .before .before .before .before .before .before .before .least .ensures, c .before .before .before .before .before .before .before .least2 .ensures, l .inv .1 .1 .0, c .before .before .before .before .before .before .before .before .before .before .before .before .before .before .before .before .before .before .before .before .before .fits .budget)
+    omega (arith, so-far, last, least-at .least .ensures, turn .least2 .ensures, l .inv .1 .1 .0, start .fits .budget)
 
 sub-left-2 : tie.Need-sub-left-2 Inv-loop μ-loop
 sub-left-2 c = omega (arith, c .before .before .before .before .before .before .before .before .least2 .ensures)
 
 loop-less : tie.Need-loop-less Inv-loop μ-loop
 loop-less c =
-    let l = c .before .before .before .before .before .before .before .before .before .before .before .loop in
-    omega (arith, goes (l .sum) (l .left) (sym (c .before .before .before .before .before .before .before .before .before .before .goes-on .ensures) ∙ c .before .before .before .before .before .before .before .before .before .if1 .taken), c .before .before .before .before .before .before .before .before .least2 .ensures, c .before .before .before .before .before .before .before .before .before .before .before .before .before .before .before .before .before .before .before .before .before .before .pre)
+    let turn = c .before .before .before .before .before .before .before .before in
+    let loop-at = turn .before .before .before in
+    let l = loop-at .loop in
+    let least-at = loop-at .before .before .before .before .before .before .before .before in
+    let start = least-at .before .before .before in
+    omega (arith, goes (l .sum) (l .left) (sym (turn .before .before .goes-on .ensures) ∙ turn .before .if1 .taken), turn .least2 .ensures, start .pre)
 
 loop-again : tie.Need-loop-again Inv-loop μ-loop
 loop-again c =
-    let l = c .before .before .before .before .before .before .before .before .before .before .before .loop in
-    let k = c .before .before .before .before .before .before .before .before .least2 .result in
-    let left₀ = c .before .before .before .before .before .before .before .before .before .before .before .before .before .before .before .before .before .before .before .before .before .before .args .budget - c .before .before .before .before .before .before .before .before .before .before .before .before .before .before .before .before .before .before .before .least .result in
-    let some : 0 < k = omega (arith, goes (l .sum) (l .left) (sym (c .before .before .before .before .before .before .before .before .before .before .goes-on .ensures) ∙ c .before .before .before .before .before .before .before .before .before .if1 .taken), c .before .before .before .before .before .before .before .before .least2 .ensures, c .before .before .before .before .before .before .before .before .before .before .before .before .before .before .before .before .before .before .before .before .before .before .pre) in
-    let all : (j : ℕ) → j + (left₀ - l .left) + k ≡ j + (left₀ - (l .left - k)) = λ j. omega (arith, l .inv .1 .1 .0, c .before .before .before .before .before .before .before .before .least2 .ensures) in (
-      c .before .before .before .before .before .run2 .kept .0 ∙ l .inv .0,
+    let turn = c .before .before .before .before .before .before .before .before in
+    let loop-at = turn .before .before .before in
+    let l = loop-at .loop in
+    let least-at = loop-at .before .before .before .before .before .before .before .before in
+    let start = least-at .before .before .before in
+    let run-at = c .before .before .before .before .before in
+    let k = turn .least2 .result in
+    let left₀ = start .args .budget - least-at .least .result in
+    let some : 0 < k = omega (arith, goes (l .sum) (l .left) (sym (turn .before .before .goes-on .ensures) ∙ turn .before .if1 .taken), turn .least2 .ensures, start .pre) in
+    let all : (j : ℕ) → j + (left₀ - l .left) + k ≡ j + (left₀ - (l .left - k)) = λ j. omega (arith, l .inv .1 .1 .0, turn .least2 .ensures) in (
+      run-at .run2 .kept .0 ∙ l .inv .0,
       (
-        c .before .before .before .before .before .run2 .kept .1 .0 ∙ l .inv .1 .0,
+        run-at .run2 .kept .1 .0 ∙ l .inv .1 .0,
         (
           omega (arith, l .inv .1 .1 .0),
           λ j s e.
-              ap (called _ _ _) (c .together .ensures) ∙ further (j + (left₀ - l .left)) s _ _ _ (l .sum) (l .inv .1 .1 .1 j s e) k _ _ _ _ _ some (all j) (c .before .before .before .before .before .run2 .ensures),
+              ap (called _ _ _) (c .together .ensures)
+              ∙ further (j + (left₀ - l .left)) s _ _ _ (l .sum) (l .inv .1 .1 .1 j s e) k _ _ _ _ _ some (all j) (run-at .run2 .ensures),
         ),
       ),
     )
@@ -93,11 +100,13 @@ same-length-2 c = c .before .before .loop .inv .1 .0 ∙ c .before .before .befo
 
 returns : tie.Need-returns Inv-loop μ-loop
 returns c =
-    let l = c .before .before .loop in
-    let first = c .before .before .before .before .before .before .before .before .before .before .least .result in
-    let budget = c .before .before .before .before .before .before .before .before .before .before .before .before .before .args .budget in
-    let all : first + (budget - first - l .left) + l .left ≡ budget = omega (arith, l .inv .1 .1 .0, c .before .before .before .before .before .before .before .before .before .before .least .ensures) in
-    over _ _ _ _ _ _ (l .inv .1 .1 .1 _ _ (c .before .before .before .before .before .before .before .run .ensures)) (l .left) _ all (sym (c .before .goes-on .ensures) ∙ c .if1 .left)
+    let loop-at = c .before .before in
+    let l = loop-at .loop in
+    let least-at = loop-at .before .before .before .before .before .before .before .before in
+    let first = least-at .least .result in
+    let budget = least-at .before .before .before .args .budget in
+    let all : first + (budget - first - l .left) + l .left ≡ budget = omega (arith, l .inv .1 .1 .0, least-at .least .ensures) in
+    over _ _ _ _ _ _ (l .inv .1 .1 .1 _ _ (loop-at .before .before .before .before .before .run .ensures)) (l .left) _ all (sym (c .before .goes-on .ensures) ∙ c .if1 .left)
 
 pub in-parts-spec : {M : Type 1} → statement M
 in-parts-spec =

@@ -7,7 +7,11 @@ use Rattle.replay.proofs.words.take_registers.Statement.{statement}
 use Rattle.replay.proofs.words.take_registers.Tie as tie
 
 abbrev Inv-loop : tie.InvT-loop
-Inv-loop space registers₀ i₀ registers i = (i ≤ length registers) × (length registers ≤ 512) × (56 + 8 * length registers ≤ length space) × (length registers ≡ length registers₀)
+Inv-loop space registers₀ i₀ registers i =
+    (i ≤ length registers)
+    × (length registers ≤ 512)
+    × (56 + 8 * length registers ≤ length space)
+    × (length registers ≡ length registers₀)
 
 abbrev μ-loop : tie.MeasureT-loop
 μ-loop space registers₀ i₀ registers i = length registers - i
