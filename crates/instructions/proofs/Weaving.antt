@@ -211,7 +211,7 @@ pub value-small : (L n : ℕ) (q : Place) (x c i : ℕ) → Runs L c i n q → v
 value-small L n (bits a) x c i h = field-lt L a n x
 value-small L n (fixed v) x c i h = rw h (pow-pos n)
 
-pub room-for : (m m₀ : List ℕ) (n c i : ℕ) (q : Place) → length m ≡ length m₀ → length m₀ ≤ 65536 → length m₀ % 8 ≡ 0 → 0 < n → n ≤ 32 → Runs (size m₀) c i n q → RoomFor m n q
+pub room-for : (m m₀ : List ℕ) (n c i : ℕ) (q : Place) → length m ≡ length m₀ → length m₀ ≤ 65536 → length m₀ % 8 ≡ 0 → 0 < n → n ≤ 64 → Runs (size m₀) c i n q → RoomFor m n q
 room-for m m₀ n c i (bits a) e hs hw h0 hn h = record { small = omega arith; words = rw e hw; some = h0; few = hn; upto = omega (arith, h .0) }
 room-for m m₀ n c i (fixed v) e hs hw h0 hn h = tt
 
@@ -230,7 +230,7 @@ weave-turn m₀ m m' d p c N from done n v h g hn le hl len ev kp f inv =
 -- what the loop knows of the run of n bits that it works next
 pub record Turn (d : Sides) (p : Period) (c i N n : ℕ) : Type 0 where
   pub some : 0 < n
-  pub few : n ≤ 32
+  pub few : n ≤ 64
   pub upto : i + n ≤ N
   pub left : n ≤ leftAt (cursorAt d p i) p
   pub period : i % p .bits + n ≤ p .bits
@@ -246,7 +246,7 @@ left-is d p i hp hh = go (ltb (i % p .bits) (p .head)) refl
     go false e = let l : i % p .bits < p .bits = mod-lt i hp in (omega arith, omega arith)
 
 pub next-turn : (m₀ : List ℕ) (d : Sides) (p : Period) (c from count done l s n : ℕ) (u : Cursor) → ReadyBits m₀ d p c (from + count) → Paced p → done < count → u ≡ cursorAt d p (from + done)
-    → l ≡ leftAt u p → s ≡ min l (count - done) → n ≡ min s (32 - (c + (from + done)) % 32) → Turn d p c (from + done) (from + count) n
+    → l ≡ leftAt u p → s ≡ min l (count - done) → n ≡ min s (64 - (c + (from + done)) % 64) → Turn d p c (from + done) (from + count) n
 next-turn m₀ d p c from count done l s n u h g hd eu el es en =
     let k = left-is d p (from + done) (h .some-bits) (g .part-r) in
     let e : l ≡ leftAt (cursorAt d p (from + done)) p = el ∙ ap (λ (v : Cursor). leftAt v p) eu in

@@ -5,7 +5,7 @@ use Prim.Native.Nat.{ℕ, _+_, _-_, _*_, _/_, _%_, _^_, _≤_, _<_}
 use native.Mathlib.Nat.{mod-le, div-mul-le-self, mul-le-mul-right, le-trans}
 use native.Mathlib.Omega.{arith}
 use lib.Bits.{bitOr, or-shifted}
-use lib.Pow.{shl-exact}
+use lib.Pow.{shl-exact, shl-shr, shr-shr, field as slot}
 use Rattle.fields.specs.Slot.{get}
 use Rattle.fields.specs.Field.{field, store}
 use Rattle.fields.specs.Bytes.{num, size}
@@ -13,6 +13,15 @@ use Rattle.fields.specs.Memory.{Kept}
 use Rattle.fields.proofs.Slots.{get-lt, put-sum, put-lt}
 use Rattle.fields.proofs.Places.{field-lt, field-join, field-field, store-inside}
 use Rattle.instructions.specs.Loops.{Room}
+
+-- n bits from bit j on, by a shift to the left end and one to the right
+pub shifted-part : (w j n : ℕ) → j + n ≤ 64 → w * 2 ^ j % 2 ^ 64 / 2 ^ (64 - n) ≡ field 64 j n w
+shifted-part w j n le =
+    let e : n + (64 - n) ≡ 64 = omega arith in
+    let f : j + (64 - (j + n)) ≡ 64 - n = omega arith in
+    ap (λ (k : ℕ). w * 2 ^ j % 2 ^ k / 2 ^ (64 - n)) (sym e)
+    ∙ slot (w * 2 ^ j) n (64 - n)
+    ∙ ap (λ (y : ℕ). y % 2 ^ n) (ap (λ (k : ℕ). w * 2 ^ j / 2 ^ k) (sym f) ∙ sym (shr-shr (w * 2 ^ j) j (64 - (j + n))) ∙ ap (λ (y : ℕ). y / 2 ^ (64 - (j + n))) (shl-shr w j))
 
 -- a part h of w taken out, and v put in: the shifts lose nothing
 module _ (w j n v h : ℕ) (hw : w < 2 ^ 64) (le : j + n ≤ 64) (hv : v < 2 ^ n) (eh : h ≡ field 64 j n w) where

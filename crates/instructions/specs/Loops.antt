@@ -139,7 +139,7 @@ pub record Room (m : List ℕ) (a n : ℕ) : Type 0 where
   pub small : length m ≤ 65536
   pub words : length m % 8 ≡ 0
   pub some : 0 < n
-  pub few : n ≤ 32
+  pub few : n ≤ 64
   pub upto : a + n ≤ size m
 
 abbrev pub sidesOf : ℕ → SecondBits → Sides

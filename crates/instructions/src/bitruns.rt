@@ -1,4 +1,4 @@
-// Compress, merge and mask, by runs of up to 32 bits.
+// Compress, merge and mask, by runs of up to 64 bits.
 ghost use mathlib.Core.Path.{_≡_};
 ghost use mathlib.Core.Bool.{true, false};
 ghost use Prim.Native.Nat.{_+_, _-_, _*_, _/_, _%_, _^_, _<_, _≤_, min};
@@ -15,25 +15,17 @@ use crate::items::SecondBits;
 use fields::bytes;
 use fields::gathers::Runs;
 
-// 2 to the n.
-fn power(n: u64) -> u64
-    requires { ⌜ n < 64 ⌝ }
-    ensures { λ r. ⌜ r ≡ 2 ^ n ⌝ }
-{
-    1 << n
-}
-
 // The n bits from bit j of a word on.
 fn part(w: u64, j: u64, n: u64) -> u64
-    requires { ⌜ (0 < n) × (n < 64) × (j + n ≤ 64) ⌝ }
+    requires { ⌜ (0 < n) × (j + n ≤ 64) ⌝ }
     ensures { λ r. ⌜ r ≡ field 64 j n w ⌝ }
 {
-    (w >> (64 - (j + n))) % power(n)
+    (w << j) >> (64 - n)
 }
 
 // The word with v in those bits.
 fn placed(w: u64, j: u64, n: u64, v: u64) -> u64
-    requires { ⌜ (0 < n) × (n < 64) × (j + n ≤ 64) × (v < 2 ^ n) ⌝ }
+    requires { ⌜ (0 < n) × (j + n ≤ 64) × (v < 2 ^ n) ⌝ }
     ensures { λ r. ⌜ r ≡ store 64 j n v w ⌝ }
 {
     let s = 64 - (j + n);
@@ -215,7 +207,7 @@ fn next_bits(m: &[u8], some: bool, p: Period, u: Cursor, n: u64) -> u64
     }
 }
 
-// The loop of all three. A run ends with the one of R or of S, with the items asked for, or with a half of an aligned word of the result.
+// The loop of all three. A run ends with the one of R or of S, with the items asked for, or with an aligned word of the result.
 fn weave(m: &mut [u8], sides: Sides, p: Period, c: usize, from: usize, count: usize)
     requires { ⌜ ReadyBits (now m) sides p c (from + count) × Paced p ⌝ }
     ensures { λ r. ⌜ Done (taken c 1 (wovenAt sides p)) from count (now (m .entry)) (now (m .exit)) ⌝ }
@@ -224,7 +216,7 @@ fn weave(m: &mut [u8], sides: Sides, p: Period, c: usize, from: usize, count: us
     let mut done: usize = 0;
     while done < count {
         let to = c + (from + done);
-        let n = smaller(smaller(u.left(p), count - done), 32 - to % 32);
+        let n = smaller(smaller(u.left(p), count - done), 64 - to % 64);
         let v = next_bits(m, sides.some, p, u, n as u64);
         to_word(m, to, n as u64, v);
         u = u.on(p, n);

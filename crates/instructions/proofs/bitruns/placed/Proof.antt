@@ -22,7 +22,7 @@ sub-result c =
     let s₁ = c .before in
     let args = s₁ .args in
     let pre = s₁ .pre in
-    placed-sub (args .w) (args .j) (args .n) (args .v) (part .result) (s₁ .fits .w .fits) (pre .2) (pre .3) (part .ensures)
+    placed-sub (args .w) (args .j) (args .n) (args .v) (part .result) (s₁ .fits .w .fits) (pre .1) (pre .2) (part .ensures)
 
 shl-result : tie.Need-shl-result
 shl-result c = search needs
@@ -33,7 +33,7 @@ add-result c =
     let s₁ = c .before in
     let args = s₁ .args in
     let pre = s₁ .pre in
-    record { fits = placed-fits (args .w) (args .j) (args .n) (args .v) (part .result) (s₁ .fits .w .fits) (pre .2) (pre .3) (part .ensures) }
+    record { fits = placed-fits (args .w) (args .j) (args .n) (args .v) (part .result) (s₁ .fits .w .fits) (pre .1) (pre .2) (part .ensures) }
 
 returns : tie.Need-returns
 returns c =
@@ -41,7 +41,7 @@ returns c =
     let s₁ = c .before in
     let args = s₁ .args in
     let pre = s₁ .pre in
-    placed-is (args .w) (args .j) (args .n) (args .v) (part .result) (s₁ .fits .w .fits) (pre .2) (pre .3) (part .ensures)
+    placed-is (args .w) (args .j) (args .n) (args .v) (part .result) (s₁ .fits .w .fits) (pre .1) (pre .2) (part .ensures)
 
 pub placed-spec : {M : Type 1} → statement M
 placed-spec =
