@@ -28,6 +28,7 @@ pub mod Gates
 pub mod Planned
 pub mod Wordwise
 pub mod Weaving
+pub mod Periodic
 pub mod Moving
 pub mod Passing
 pub mod Working

@@ -25,7 +25,7 @@ use Rattle.instructions.proofs.Agree.{resume}
 
 -- ---- the cursor
 
-within : (i p k : ℕ) → 0 < p → i % p + k < p → ((i + k) / p ≡ i / p) × ((i + k) % p ≡ i % p + k)
+pub within : (i p k : ℕ) → 0 < p → i % p + k < p → ((i + k) / p ≡ i / p) × ((i + k) % p ≡ i % p + k)
 within i p k hp h =
     let d : i / p * p + i % p ≡ i = div-add-mod' i p in
     let m : (i / p + 1) * p ≡ i / p * p + 1 * p = add-mul (i / p) 1 p in
@@ -34,7 +34,7 @@ within i p k hp h =
     let e : (i + k) / p * p ≡ i / p * p = ap (λ (x : ℕ). x * p) q in
     (q, omega arith)
 
-past : (i p k : ℕ) → 0 < p → i % p + k ≡ p → ((i + k) / p ≡ i / p + 1) × ((i + k) % p ≡ 0)
+pub past : (i p k : ℕ) → 0 < p → i % p + k ≡ p → ((i + k) / p ≡ i / p + 1) × ((i + k) % p ≡ 0)
 past i p k hp h =
     let d : i / p * p + i % p ≡ i = div-add-mod' i p in
     let m : (i / p + 1) * p ≡ i / p * p + 1 * p = add-mul (i / p) 1 p in
@@ -175,7 +175,7 @@ module _ (m₀ : List ℕ) (d : Sides) (p : Period) (c N i n : ℕ) (h : ReadyBi
 -- ---- a run of items is one field
 
 -- v j is the first j bits of the run
-run-by : (L c from x f : ℕ) (g : ℕ → Place) (n : ℕ) (v : ℕ → ℕ) → v 0 ≡ 0 → ((j : ℕ) → v j < 2 ^ j) → c + (from + n) ≤ L
+pub run-by : (L c from x f : ℕ) (g : ℕ → Place) (n : ℕ) (v : ℕ → ℕ) → v 0 ≡ 0 → ((j : ℕ) → v j < 2 ^ j) → c + (from + n) ≤ L
     → ((j : ℕ) → j < n → valueAt L 1 (g (from + j)) (store L (c + from) j (v j) x) < 2)
     → ((j : ℕ) → j < n → v j * 2 ^ 1 + valueAt L 1 (g (from + j)) (store L (c + from) j (v j) x) ≡ v (j + 1))
     → turns (taken c 1 g) L from n (worked x f) ≡ worked (store L (c + from) n (v n) x) f

@@ -2,16 +2,16 @@
 use mathlib.Core.Path.{_≡_, sym, ap, ap₂, _∙_}
 use mathlib.Core.List.{List}
 use Prim.Native.Nat.{ℕ, _+_, _-_, _*_, _/_, _%_, _^_, _≤_, _<_}
-use native.Mathlib.Nat.{mod-le, div-mul-le-self, mul-le-mul-right, le-trans}
+use native.Mathlib.Nat.{mod-le, div-one, div-mul-le-self, mul-le-mul-right, le-trans}
 use native.Mathlib.Omega.{arith}
 use lib.Bits.{bitOr, or-shifted}
-use lib.Pow.{shl-exact, shl-shr, shr-shr, field as slot}
+use lib.Pow.{shl-exact, shl-shr, shr-lt, shr-shr, split, field as slot}
 use Rattle.fields.specs.Slot.{get}
 use Rattle.fields.specs.Field.{field, store}
 use Rattle.fields.specs.Bytes.{num, size}
 use Rattle.fields.specs.Memory.{Kept}
 use Rattle.fields.proofs.Slots.{get-lt, put-sum, put-lt}
-use Rattle.fields.proofs.Places.{field-lt, field-join, field-field, store-inside}
+use Rattle.fields.proofs.Places.{field-lt, field-join, field-field, store-inside, store-join}
 use Rattle.instructions.specs.Loops.{Room}
 
 -- n bits from bit j on, by a shift to the left end and one to the right
@@ -63,3 +63,23 @@ joined-bits L at h l x u y le la eu ey =
     let hu : u < 2 ^ h = rw eu (field-lt L at h x) in
     let hy : y < 2 ^ l = rw ey (field-lt L (at + h) l x) in
     ap (λ (p : ℕ). bitOr p y) (shl-exact {a = u} h l 64 hu le) ∙ or-shifted u l y hy ∙ ap₂ (λ (p q : ℕ). p * 2 ^ l + q) eu ey ∙ sym (field-join L at h l x la)
+
+-- v in two parts, to the words on both sides of a boundary
+pub left-part : (v h n : ℕ) → h ≤ n → v < 2 ^ n → v / 2 ^ (n - h) < 2 ^ h
+left-part v h n le lt = let e : h + (n - h) ≡ n = omega arith in shr-lt h (n - h) (rw e lt)
+
+pub two-words : (m m₁ m₂ : List ℕ) (at h n v y : ℕ) → h ≤ n → n ≤ 64 → at + n ≤ size m → v < 2 ^ n → y ≡ field 64 (64 - (n - h)) (n - h) v
+    → Kept m at h (v / 2 ^ (n - h)) m₁ → Kept m₁ (at + h) (n - h) y m₂ → Kept m at n v m₂
+two-words m m₁ m₂ at h n v y le few la lt ey k₁ k₂ =
+    let l : ℕ = n - h in
+    let e : h + (n - h) ≡ n = omega arith in
+    let z : 64 - ((64 - (n - h)) + (n - h)) ≡ 0 = omega arith in
+    let ey' : y ≡ v % 2 ^ (n - h) = ey ∙ ap (λ (k : ℕ). v / 2 ^ k % 2 ^ (n - h)) z ∙ ap (λ (q : ℕ). q % 2 ^ (n - h)) (div-one v) in
+    let hy : y < 2 ^ (n - h) = rw ey (field-lt 64 (64 - (n - h)) (n - h) v) in
+    let es : size m₁ ≡ size m = ap (λ (k : ℕ). 8 * k) (k₁ .as-long) in
+    record {
+      as-long = k₂ .as-long ∙ k₁ .as-long;
+      holds = k₂ .holds ∙ ap₂ (λ (L x : ℕ). store L (at + h) (n - h) y x) es (k₁ .holds)
+          ∙ store-join (size m) at h (n - h) (v / 2 ^ (n - h)) y (num m) (left-part v h n le lt) hy (omega arith)
+          ∙ ap₂ (λ (k q : ℕ). store (size m) at k q (num m)) e (ap (λ (q : ℕ). v / 2 ^ (n - h) * 2 ^ (n - h) + q) ey' ∙ split v (n - h));
+    }

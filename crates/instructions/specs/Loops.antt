@@ -2,11 +2,12 @@
 use mathlib.Core.Path.{_≡_}
 use mathlib.Core.Bool.{Bool, true, false, cond}
 use mathlib.Core.List.{List}
-use Prim.Native.Nat.{ℕ, _+_, _-_, _*_, _/_, _%_, _^_, _≤_, _<_, min}
+use Prim.Native.Nat.{ℕ, zero, suc, _+_, _-_, _*_, _/_, _%_, _^_, _≤_, _<_, min}
 use lib.Dec.{eqb, ltb}
 use lib.Bits.{bitOr}
 use lib.ListN.{length}
 use Rattle.fields.specs.declared.gathers.Runs.{Runs}
+use Rattle.fields.specs.Slot.{get}
 use Rattle.fields.specs.Field.{field, Apart}
 use Rattle.fields.specs.Bytes.{num, size}
 use Rattle.fields.specs.Memory.{Kept}
@@ -196,3 +197,36 @@ pub record ReadyBits (m : List ℕ) (d : Sides) (p : Period) (c n : ℕ) : Type 
   pub near-r : d .r < 2 ^ 48
   pub near-s : d .s < 2 ^ 48
   pub clear : (i a : ℕ) → i < n → wovenAt d p i ≡ bits a → (a < size m) × Apart c n a 1
+
+-- t periods at once, where each part of them fits a word
+pub record Chunk (p : Period) (t : ℕ) : Type 0 where
+  pub some : 0 < t
+  pub part : 0 < p .head
+  pub gap : p .bits ≤ 32
+  pub fits : t * p .bits ≤ 64
+  pub fits-r : t * p .first ≤ 64
+  pub fits-s : t * p .second ≤ 64
+  pub span-r : (t - 1) * p .first + p .head ≤ 64
+  pub span-s : (t - 1) * p .second + (p .bits - p .skipped) ≤ 64
+
+-- k of t pieces of x, each of n bits and `step` bits after the one before it, the last at the right end: each at the right end of `gap` bits
+abbrev pub spreadOf : ℕ → ℕ → ℕ → ℕ → ℕ → ℕ → ℕ
+spreadOf x step n gap t zero = 0
+spreadOf x step n gap t (suc k) = spreadOf x step n gap t k * 2 ^ gap + get ((t - suc k) * step) n x
+
+-- S has a part in the periods
+abbrev pub bothIn : Bool → Period → Bool
+bothIn some p = cond (ltb (p .head) (p .bits)) some false
+
+-- the bits of R and of S from their first in t periods to their last
+abbrev pub spanR : Period → ℕ → ℕ
+spanR p t = (t - 1) * p .first + p .head
+
+abbrev pub spanS : Period → ℕ → ℕ
+spanS p t = (t - 1) * p .second + (p .bits - p .skipped)
+
+-- t periods, R's part from bit r on and S's from bit s on
+abbrev pub periodsOf : ℕ → Bool → Period → ℕ → ℕ → ℕ → ℕ → ℕ
+periodsOf L both p r s t x =
+    spreadOf (field L r (spanR p t) x) (p .first) (p .head) (p .bits) t t * 2 ^ (p .bits - p .head)
+    + cond both (spreadOf (field L s (spanS p t) x) (p .second) (p .bits - p .head) (p .bits) t t) 0

@@ -1,14 +1,15 @@
-// Compress, merge and mask, by runs of up to 64 bits.
+// Compress, merge and mask, by runs of up to 64 bits; where the runs are short, by several periods at once.
 ghost use mathlib.Core.Path.{_≡_};
 ghost use mathlib.Core.Bool.{true, false};
 ghost use Prim.Native.Nat.{_+_, _-_, _*_, _/_, _%_, _^_, _<_, _≤_, min};
 ghost use lib.ListN.{length};
+ghost use Rattle.fields.specs.Slot.{get};
 ghost use Rattle.fields.specs.Field.{field, store};
 ghost use Rattle.fields.specs.Bytes.{num, size};
 ghost use Rattle.fields.specs.Memory.{Kept};
 ghost use Rattle.instructions.specs.Items.{valueAt};
 ghost use Rattle.instructions.specs.Plan.{taken};
-ghost use Rattle.instructions.specs.Loops.{Done, Room, RoomFor, sidesOf, periodOf, cursorAt, cursorOn, leftAt, standsAt, wovenAt, Paced, ReadyBits};
+ghost use Rattle.instructions.specs.Loops.{Done, Room, RoomFor, sidesOf, periodOf, cursorAt, cursorOn, leftAt, standsAt, wovenAt, Paced, ReadyBits, Chunk, spreadOf, bothIn, spanR, spanS, periodsOf};
 use crate::items::BitPlan;
 use crate::items::Rule;
 use crate::items::SecondBits;
@@ -66,6 +67,21 @@ fn run(m: &[u8], at: usize, n: u64) -> u64
         let x = in_word(m, at, h);
         let y = in_word(m, at + h as usize, l);
         (x << l) | y
+    }
+}
+
+// v to them.
+fn put_run(m: &mut [u8], at: usize, n: u64, v: u64)
+    requires { ⌜ Room (now m) at n × (v < 2 ^ n) ⌝ }
+    ensures { λ r. ⌜ Kept (now (m .entry)) at n v (now (m .exit)) ⌝ }
+{
+    let h = 64 - (at % 64) as u64;
+    if n <= h {
+        to_word(m, at, n, v);
+    } else {
+        let l = n - h;
+        to_word(m, at, h, v >> l);
+        to_word(m, at + h as usize, l, part(v, 64 - l, l));
     }
 }
 
@@ -224,6 +240,126 @@ fn weave(m: &mut [u8], sides: Sides, p: Period, c: usize, from: usize, count: us
     }
 }
 
+// The n bits of x that have `right` bits to their right.
+fn piece(x: u64, right: usize, n: usize) -> u64
+    requires { ⌜ (right < 64) × (n ≤ 32) ⌝ }
+    ensures { λ r. ⌜ r ≡ get right n x ⌝ }
+{
+    let end: u64 = 1 << n;
+    (x >> right) % end
+}
+
+// t pieces of x, each of n bits and `step` bits after the one before it, the last at the right end: each at the right end of `gap` bits.
+fn spread(x: u64, step: usize, n: usize, gap: usize, t: usize) -> u64
+    requires { ⌜ (n ≤ gap) × (gap ≤ 32) × (t * gap ≤ 64) × (t * step ≤ 64) ⌝ }
+    ensures { λ r. ⌜ r ≡ spreadOf x step n gap t t ⌝ }
+{
+    let mut v: u64 = 0;
+    let mut k: usize = 0;
+    while k < t {
+        v = (v << gap) + piece(x, (t - (k + 1)) * step, n);
+        k += 1;
+    }
+    v
+}
+
+// S has a part in the periods.
+fn two_parts(some: bool, p: Period) -> bool
+    ensures { λ r. ⌜ r ≡ bothIn some p ⌝ }
+{
+    if p.head < p.bits { some } else { false }
+}
+
+// t periods, R's part from bit r on and S's, if it has one, from bit s on.
+fn periods(m: &[u8], both: bool, p: Period, r: usize, s: usize, t: usize) -> u64
+    requires { ⌜ Paced p × Chunk p t × Room (now m) r (spanR p t) × (both ≡ true → Room (now m) s (spanS p t)) ⌝ }
+    ensures { λ v. ⌜ v ≡ periodsOf (size (now (m .entry))) both p r s t (num (now (m .entry))) ⌝ }
+{
+    let tail = p.bits - p.head;
+    let before = t - 1;
+    let x = run(m, r, (before * p.first + p.head) as u64);
+    let heads = spread(x, p.first, p.head, p.bits, t) << tail;
+    if both {
+        let y = run(m, s, (before * p.second + (p.bits - p.skipped)) as u64);
+        heads + spread(y, p.second, tail, p.bits, t)
+    } else {
+        heads
+    }
+}
+
+// As many times t periods as count bits have, from the beginning of a period on; how many bits that is.
+fn by_periods(
+    m: &mut [u8],
+    sides: Sides,
+    p: Period,
+    c: usize,
+    t: usize,
+    from: usize,
+    count: usize,
+) -> usize
+    requires { ⌜ ReadyBits (now m) sides p c (from + count) × Paced p × Chunk p t × (from % p .bits ≡ 0) ⌝ }
+    ensures { λ r. ⌜ (r ≤ count) × Done (taken c 1 (wovenAt sides p)) from r (now (m .entry)) (now (m .exit)) ⌝ }
+{
+    let n = t * p.bits;
+    let u = Cursor::at(sides, p, from);
+    let mut r = u.r;
+    let mut s = u.s;
+    let mut done: usize = 0;
+    while done + n <= count {
+        let both = two_parts(sides.some, p);
+        let v = periods(m, both, p, r, s, t);
+        put_run(m, c + (from + done), n as u64, v);
+        r += t * p.first;
+        s += t * p.second;
+        done += n;
+    }
+    done
+}
+
+// Bits to the end of a period, then several periods at once, then the rest.
+fn in_periods(m: &mut [u8], sides: Sides, p: Period, c: usize, t: usize, from: usize, count: usize)
+    requires { ⌜ ReadyBits (now m) sides p c (from + count) × Paced p × Chunk p t × (64 ≤ count) ⌝ }
+    ensures { λ r. ⌜ Done (taken c 1 (wovenAt sides p)) from count (now (m .entry)) (now (m .exit)) ⌝ }
+{
+    let lead = p.bits - from % p.bits;
+    weave(m, sides, p, c, from, lead);
+    let done = lead + by_periods(m, sides, p, c, t, from + lead, count - lead);
+    weave(m, sides, p, c, from + done, count - done);
+}
+
+// At least each of two.
+fn larger(m: usize, n: usize) -> usize
+    ensures { λ r. ⌜ (m ≤ r) × (n ≤ r) ⌝ }
+{
+    if m < n { n } else { m }
+}
+
+// Whether several periods of at most w bits are worked at once.
+fn at_once(p: Period, w: usize, count: usize) -> bool
+    ensures { λ r. ⌜ (r ≡ true → (w ≤ 32) × (0 < p .head) × (64 ≤ count)) ⌝ }
+{
+    if 32 < w {
+        return false;
+    }
+    if p.head == 0 {
+        return false;
+    }
+    64 <= count
+}
+
+// Items from..from + count of a period's rule, the shorter way.
+fn woven(m: &mut [u8], sides: Sides, p: Period, c: usize, from: usize, count: usize)
+    requires { ⌜ ReadyBits (now m) sides p c (from + count) × Paced p ⌝ }
+    ensures { λ r. ⌜ Done (taken c 1 (wovenAt sides p)) from count (now (m .entry)) (now (m .exit)) ⌝ }
+{
+    let w = larger(p.bits, larger(p.first, p.second));
+    if at_once(p, w, count) {
+        in_periods(m, sides, p, c, 64 / w, from, count);
+    } else {
+        weave(m, sides, p, c, from, count);
+    }
+}
+
 // Items from..from + count of a compress, merge or mask.
 pub fn gather(m: &mut [u8], plan: BitPlan, from: usize, count: usize)
     requires { ⌜ ReadyBits (now m) (sidesOf (plan .first) (plan .second)) (periodOf (plan .rule) (plan .runs)) (plan .result) (from + count) ⌝ }
@@ -235,5 +371,5 @@ pub fn gather(m: &mut [u8], plan: BitPlan, from: usize, count: usize)
     let sides = two_sides(plan.first, second);
     let p = one_period(rule, runs);
     let c = plan.result;
-    weave(m, sides, p, c, from, count);
+    woven(m, sides, p, c, from, count);
 }

@@ -9,8 +9,8 @@ two-sides-requires c κs = search needs
 one-period-requires : tie.Need-one-period-requires
 one-period-requires c κs = search needs
 
-weave-requires : tie.Need-weave-requires
-weave-requires c κs =
+woven-requires : tie.Need-woven-requires
+woven-requires c κs =
     let s₁ = c .before in
     let one-period = s₁ .one-period in
     let s₂ = s₁ .before .before .before .before in
@@ -23,8 +23,8 @@ returns : tie.Need-returns
 returns c =
     let s₁ = c .before .before .before .before in
     let s₂ = s₁ .before in
-    rw (s₂ .two-sides .ensures, s₁ .one-period .ensures .0) at (c .before .before .weave .ensures)
+    rw (s₂ .two-sides .ensures, s₁ .one-period .ensures .0) at (c .before .before .woven .ensures)
 
 pub gather-spec : {M : Type 1} → statement M
 gather-spec =
-    tie.close (tie.spec two-sides-requires one-period-requires weave-requires same-length returns)
+    tie.close (tie.spec two-sides-requires one-period-requires woven-requires same-length returns)
