@@ -1,21 +1,22 @@
 -- Bits by several periods at once. Items side by side are one number; that of t periods is the pieces of R and those of S, spread out.
 use mathlib.Core.Path.{_≡_, refl, sym, ap, ap₂, subst, _∙_}
-use mathlib.Core.Logic.{_⊎_, inl, inr, ⊎-elim}
+use mathlib.Core.Logic.{inl, inr, ⊎-elim}
 use mathlib.Core.Bool.{Bool, true, false, cond}
 use mathlib.Core.List.{List}
 use Prim.Native.Nat.{ℕ, zero, suc, _+_, _-_, _*_, _/_, _%_, _^_, _≤_, _<_}
-use native.Mathlib.Nat.{add-mul, mul-add, mul-assoc, mul-comm, suc-mul, pow-succ', mul-le-mul-left, mul-le-mul-right, add-mul-div-right, add-mul-mod-self-right, div-mul-le-self, le-trans, mod-one, zero-div, zero-mod, lt-of-lt-of-le, le-div-iff-mul-le}
+use native.Mathlib.Nat.{add-mul, mul-add, mul-assoc, mul-comm, suc-mul, pow-succ', mul-le-mul-left, mul-le-mul-right, add-mul-div-right, add-mul-mod-self-right, div-mul-le-self, le-trans, lt-of-lt-of-le, le-div-iff-mul-le, div-one, mod-lt, mod-eq-of-lt, one-mul}
 use native.Mathlib.Omega.{arith}
 use borrow.Author.Tests.{lt-ltb, le-ltb, ltb-true, ltb-false}
 use lib.Dec.{ltb}
 use lib.ListN.{length}
-use lib.Pow.{pow-add, pow-mono, pow-pos, shl-exact, shr-lt, split}
+use lib.Bits.{bitAnd, and-zero-r, and-block, and-mask}
+use lib.Pow.{pow-add, pow-lt, pow-mono, pow-pos, shl-exact, shr-shr, split, ones-lt, mod-mod-pow}
 use Rattle.fields.specs.Slot.{get}
-use Rattle.fields.specs.Field.{field, store, Apart}
+use Rattle.fields.specs.Field.{field, store}
 use Rattle.fields.specs.Bytes.{num, size}
 use Rattle.fields.specs.Memory.{Kept}
 use Rattle.fields.proofs.Slots.{get-lt}
-use Rattle.fields.proofs.Places.{field-lt, field-other, field-join, field-field, field-none, store-join}
+use Rattle.fields.proofs.Places.{field-lt, field-other, field-join, field-field, field-none}
 use Rattle.instructions.specs.declared.bitruns.Sides.{Sides}
 use Rattle.instructions.specs.declared.bitruns.Period.{Period}
 use Rattle.instructions.specs.Items.{Place, bits, fixed, valueAt, worked, turns}
@@ -31,6 +32,9 @@ beside a b n k ha hb =
     let le : (a + 1) * 2 ^ k ≤ 2 ^ n * 2 ^ k = mul-le-mul-right (2 ^ k) (omega arith) in
     let e : (a + 1) * 2 ^ k ≡ a * 2 ^ k + 1 * 2 ^ k = add-mul a 1 (2 ^ k) in
     rw (pow-add 2 n k) (omega arith)
+
+pub whole-power : (n : ℕ) → n < 64 → 1 * 2 ^ n % 2 ^ 64 ≡ 2 ^ n
+whole-power n h = rw one-mul (mod-eq-of-lt (pow-lt {j = 64} h))
 
 double : (a b : ℕ) → a * 2 ^ suc b ≡ a * 2 ^ b * 2 ^ 1
 double a b =
@@ -166,6 +170,34 @@ steps-fit t k (suc s) lt le =
     let b : (k + 1) * suc s ≡ k * suc s + 1 * suc s = add-mul k 1 (suc s) in
     let a' : t * suc s ≡ (t - (k + 1)) * suc s + (k + 1) * suc s = rw e at a in
     omega arith
+
+-- pieces that stay where they are
+ones-mask : (n gap y : ℕ) → n ≤ gap → bitAnd (y % 2 ^ gap) ((2 ^ n - 1) / 2 ^ 0 % 2 ^ n) ≡ y % 2 ^ n
+ones-mask n gap y le =
+    let e : (gap - n) + n ≡ gap = omega arith in
+    let o : (2 ^ n - 1) / 2 ^ 0 % 2 ^ n ≡ 2 ^ n - 1 = ap (λ (k : ℕ). k % 2 ^ n) (div-one (2 ^ n - 1)) ∙ mod-eq-of-lt (ones-lt n) in
+    rw o (and-mask (y % 2 ^ gap) n ∙ ap (λ (k : ℕ). y % 2 ^ k % 2 ^ n) (sym e) ∙ mod-mod-pow y (gap - n) n)
+
+stays : (x n gap t k : ℕ) → n ≤ gap → k ≤ t → bitAnd (x / 2 ^ ((t - k) * gap)) (spreadOf (2 ^ n - 1) 0 n gap t k) ≡ spreadOf x gap n gap t k
+stays x n gap t zero h le = and-zero-r (x / 2 ^ ((t - 0) * gap))
+stays x n gap t (suc k) h le =
+    let y : ℕ = x / 2 ^ ((t - suc k) * gap) in
+    let e₁ : (t - suc k) + 1 ≡ t - k = omega arith in
+    let e₂ : (t - suc k + 1) * gap ≡ (t - suc k) * gap + 1 * gap = add-mul (t - suc k) 1 gap in
+    let e₃ : (t - suc k) * gap + gap ≡ (t - k) * gap = omega (arith, rw e₁ at e₂) in
+    let e₄ : x / 2 ^ ((t - suc k) * gap) / 2 ^ gap ≡ x / 2 ^ ((t - k) * gap) = shr-shr x ((t - suc k) * gap) gap ∙ ap (λ (q : ℕ). x / 2 ^ q) e₃ in
+    let z : (t - suc k) * 0 ≡ 0 = omega (arith, mul-comm (t - suc k) 0) in
+    let low : get 0 n (2 ^ n - 1) < 2 ^ gap = lt-of-lt-of-le (get-lt 0 n (2 ^ n - 1)) (pow-mono h) in
+    ap (λ (q : ℕ). bitAnd (x / 2 ^ ((t - suc k) * gap)) (spreadOf (2 ^ n - 1) 0 n gap t k * 2 ^ gap + get q n (2 ^ n - 1))) z
+    ∙ ap (λ (q : ℕ). bitAnd q (spreadOf (2 ^ n - 1) 0 n gap t k * 2 ^ gap + get 0 n (2 ^ n - 1))) (sym (split (x / 2 ^ ((t - suc k) * gap)) gap))
+    ∙ and-block gap (x / 2 ^ ((t - suc k) * gap) / 2 ^ gap) (spreadOf (2 ^ n - 1) 0 n gap t k) (x / 2 ^ ((t - suc k) * gap) % 2 ^ gap) (get 0 n (2 ^ n - 1)) (mod-lt (x / 2 ^ ((t - suc k) * gap)) (pow-pos gap)) low
+    ∙ ap₂ (λ (p q : ℕ). p * 2 ^ gap + q) (ap (λ (q : ℕ). bitAnd q (spreadOf (2 ^ n - 1) 0 n gap t k)) e₄ ∙ stays x n gap t k h (omega arith)) (ones-mask n gap (x / 2 ^ ((t - suc k) * gap)) h)
+
+pub masked : (x o step n gap t : ℕ) → n ≤ gap → step ≡ gap → o ≡ spreadOf (2 ^ n - 1) 0 n gap t t → bitAnd x o ≡ spreadOf x step n gap t t
+masked x o step n gap t h es eo =
+    let z : (t - t) * gap ≡ 0 = let e : t - t ≡ 0 = omega arith in ap (λ (q : ℕ). q * gap) e ∙ omega arith in
+    let s : bitAnd (x / 2 ^ ((t - t) * gap)) (spreadOf (2 ^ n - 1) 0 n gap t t) ≡ spreadOf x gap n gap t t = stays x n gap t t h (omega arith) in
+    ap₂ bitAnd (sym (ap (λ (q : ℕ). x / 2 ^ q) z ∙ div-one x)) eo ∙ s ∙ ap (λ (q : ℕ). spreadOf x q n gap t t) (sym es)
 
 -- a piece of a window is a field of memory
 piece-is : (L x base step n o t k : ℕ) → k < t → base + ((t - 1) * step + (o + n)) ≤ L

@@ -263,6 +263,27 @@ fn spread(x: u64, step: usize, n: usize, gap: usize, t: usize) -> u64
     v
 }
 
+// t pieces of n ones each.
+fn all_ones(n: usize, gap: usize, t: usize) -> u64
+    requires { ⌜ (n ≤ gap) × (gap ≤ 32) × (t * gap ≤ 64) ⌝ }
+    ensures { λ r. ⌜ r ≡ spreadOf (2 ^ n - 1) 0 n gap t t ⌝ }
+{
+    let end: u64 = 1 << n;
+    spread(end - 1, 0, n, gap, t)
+}
+
+// As `spread`; pieces that are as far apart as they are to be stay where they are.
+fn pieces(x: u64, ones: u64, step: usize, n: usize, gap: usize, t: usize) -> u64
+    requires { ⌜ (n ≤ gap) × (gap ≤ 32) × (t * gap ≤ 64) × (t * step ≤ 64) × (ones ≡ spreadOf (2 ^ n - 1) 0 n gap t t) ⌝ }
+    ensures { λ r. ⌜ r ≡ spreadOf x step n gap t t ⌝ }
+{
+    if step == gap {
+        x & ones
+    } else {
+        spread(x, step, n, gap, t)
+    }
+}
+
 // S has a part in the periods.
 fn two_parts(some: bool, p: Period) -> bool
     ensures { λ r. ⌜ r ≡ bothIn some p ⌝ }
@@ -270,18 +291,27 @@ fn two_parts(some: bool, p: Period) -> bool
     if p.head < p.bits { some } else { false }
 }
 
-// t periods, R's part from bit r on and S's, if it has one, from bit s on.
-fn periods(m: &[u8], both: bool, p: Period, r: usize, s: usize, t: usize) -> u64
-    requires { ⌜ Paced p × Chunk p t × Room (now m) r (spanR p t) × (both ≡ true → Room (now m) s (spanS p t)) ⌝ }
+// t periods, R's part from bit r on and S's, if it has one, from bit s on; front and back have ones where the pieces go.
+fn periods(
+    m: &[u8],
+    both: bool,
+    p: Period,
+    front: u64,
+    back: u64,
+    r: usize,
+    s: usize,
+    t: usize,
+) -> u64
+    requires { ⌜ Paced p × Chunk p t × Room (now m) r (spanR p t) × (both ≡ true → Room (now m) s (spanS p t)) × (front ≡ spreadOf (2 ^ p .head - 1) 0 (p .head) (p .bits) t t) × (back ≡ spreadOf (2 ^ (p .bits - p .head) - 1) 0 (p .bits - p .head) (p .bits) t t) ⌝ }
     ensures { λ v. ⌜ v ≡ periodsOf (size (now (m .entry))) both p r s t (num (now (m .entry))) ⌝ }
 {
     let tail = p.bits - p.head;
     let before = t - 1;
     let x = run(m, r, (before * p.first + p.head) as u64);
-    let heads = spread(x, p.first, p.head, p.bits, t) << tail;
+    let heads = pieces(x, front, p.first, p.head, p.bits, t) << tail;
     if both {
         let y = run(m, s, (before * p.second + (p.bits - p.skipped)) as u64);
-        heads + spread(y, p.second, tail, p.bits, t)
+        heads + pieces(y, back, p.second, tail, p.bits, t)
     } else {
         heads
     }
@@ -301,13 +331,15 @@ fn by_periods(
     ensures { λ r. ⌜ (r ≤ count) × Done (taken c 1 (wovenAt sides p)) from r (now (m .entry)) (now (m .exit)) ⌝ }
 {
     let n = t * p.bits;
+    let front = all_ones(p.head, p.bits, t);
+    let back = all_ones(p.bits - p.head, p.bits, t);
     let u = Cursor::at(sides, p, from);
     let mut r = u.r;
     let mut s = u.s;
     let mut done: usize = 0;
     while done + n <= count {
         let both = two_parts(sides.some, p);
-        let v = periods(m, both, p, r, s, t);
+        let v = periods(m, both, p, front, back, r, s, t);
         put_run(m, c + (from + done), n as u64, v);
         r += t * p.first;
         s += t * p.second;

@@ -1,46 +1,57 @@
 -- `instructions::bitruns::by_periods` meets its contract. The invariant: the next item begins a period, and all before it are worked. A turn works t periods (Periodic.chunk-turn).
 use mathlib.Core.Path.{_≡_, refl, sym, ap, _∙_}
-use Prim.Native.Nat.{ℕ, _+_, _-_, _*_, _%_, _^_, _≤_, _<_}
+use Prim.Native.Nat.{ℕ, _+_, _-_, _*_, _%_, _≤_}
 use native.Mathlib.Omega.{arith}
 use borrow.Author.Needs.{needs}
 use lib.ListN.{length}
 use Rattle.fields.specs.Bytes.{num, size}
 use Rattle.instructions.specs.Items.{worked, turns}
-use Rattle.instructions.specs.Loops.{cursorAt, wovenAt, Chunk}
+use Rattle.instructions.specs.Loops.{cursorAt, wovenAt}
 use Rattle.instructions.specs.Plan.{taken}
-use Rattle.instructions.proofs.Weaving.{near}
 use Rattle.instructions.proofs.Periodic.{rAt, sAt, Next, next-chunk, later, chunk-turn, gathered}
 use Rattle.instructions.proofs.bitruns.by_periods.Statement.{statement}
 use Rattle.instructions.proofs.bitruns.by_periods.Tie as tie
 
 abbrev Inv-loop : tie.InvT-loop
-Inv-loop m₀ sides p c t from count n r₀ s₀ done₀ m r s done =
+Inv-loop m₀ sides p c t from count n front back r₀ s₀ done₀ m r s done =
     (done ≤ count) × (length m ≡ length m₀) × ((from + done) % p .bits ≡ 0) × (r ≡ rAt sides p (from + done)) × (s ≡ sAt sides p (from + done))
     × ((f : ℕ) → worked (num m) f ≡ turns (taken c 1 (wovenAt sides p)) (size m₀) from done (worked (num m₀) f))
 
 abbrev μ-loop : tie.MeasureT-loop
-μ-loop m₀ sides p c t from count n r₀ s₀ done₀ m r s done = count - done
+μ-loop m₀ sides p c t from count n front back r₀ s₀ done₀ m r s done = count - done
 
 mul-n : tie.Need-mul-n Inv-loop μ-loop
 mul-n c =
     let u = c .before .before .pre .2 .fits in omega arith
 
+all-ones-requires : tie.Need-all-ones-requires Inv-loop μ-loop
+all-ones-requires c κs =
+    let pre = c .before .before .pre in (pre .1 .part-r, pre .2 .gap, pre .2 .fits)
+
+sub-all-ones : tie.Need-sub-all-ones Inv-loop μ-loop
+sub-all-ones c =
+    let g = c .before .before .before .before .pre .1 .part-r in omega arith
+
+all-ones-requires-2 : tie.Need-all-ones-requires-2 Inv-loop μ-loop
+all-ones-requires-2 c κs =
+    let pre = c .before .before .before .before .pre in (omega arith, pre .2 .gap, pre .2 .fits)
+
 at-requires : tie.Need-at-requires Inv-loop μ-loop
 at-requires c κs =
-    let pre = c .before .before .pre in
+    let pre = c .before .before .before .before .before .pre in
     let h = pre .0 in (h .some-bits, omega (arith, h .upto-c, h .small), pre .1, h .near-r, h .near-s)
 
 loop-holds : tie.Need-loop-holds Inv-loop μ-loop
 unfolding cursorAt
 loop-holds c =
-    let a = c .before .before .before .args in
-    let pre = c .before .before .before .pre in
+    let a = c .before .before .before .before .before .before .args in
+    let pre = c .before .before .before .before .before .before .pre in
     let e : a .from + 0 ≡ a .from = omega arith in
     (omega arith, refl, rw e (pre .3), rw (e, c .at .ensures) refl, rw (e, c .at .ensures) refl, (λ (f : ℕ). refl))
 
 add-loop : tie.Need-add-loop Inv-loop μ-loop
 add-loop c =
-    let s₁ = c .before .before .before .before in
+    let s₁ = c .before .before .before .before .before .before .before in
     let u = s₁ .pre .2 .fits in omega (arith, s₁ .pre .0 .upto-c, s₁ .pre .0 .small, c .loop .inv .0)
 
 two-parts-requires : tie.Need-two-parts-requires Inv-loop μ-loop
@@ -48,18 +59,18 @@ two-parts-requires c κs = search needs
 
 periods-requires : tie.Need-periods-requires Inv-loop μ-loop
 periods-requires c κs =
-    let s₁ = c .before .before .before .before .before .before .before in
+    let s₁ = c .before .before .before .before .before .before .before .before .before .before in
     let a = s₁ .args in
     let pre = s₁ .pre in
     let l = c .before .before .before .loop in
     let t = c .before .before .loop-test .taken in
     let i : ℕ = a .from + l .done in
     let k : Next (l .m) (a .sides) (a .p) (a .t) i = next-chunk (a .m .now) (l .m) (a .sides) (a .p) (a .c) (a .from + a .count) (a .t) i (l .inv .1) (pre .0) (pre .1) (pre .2) (l .inv .2) (omega arith) in
-    rw (c .before .two-parts .ensures, l .inv .3, l .inv .4) (pre .1, pre .2, k .room-r, k .room-s)
+    rw (c .before .two-parts .ensures, l .inv .3, l .inv .4) (pre .1, pre .2, k .room-r, k .room-s, c .before .before .before .before .before .before .before .all-ones .ensures, c .before .before .before .before .before .all-ones2 .ensures)
 
 add-put-run : tie.Need-add-put-run Inv-loop μ-loop
 add-put-run c =
-    let s₁ = c .before .before .before .before .before .before .before .before .before in
+    let s₁ = c .before .before .before .before .before .before .before .before .before .before .before .before in
     let a = s₁ .args in
     let pre = s₁ .pre in
     let l = c .before .before .before .before .before .loop in
@@ -70,7 +81,7 @@ add-put-run c =
 
 add-put-run-2 : tie.Need-add-put-run-2 Inv-loop μ-loop
 add-put-run-2 c =
-    let s₁ = c .before .before .before .before .before .before .before .before .before in
+    let s₁ = c .before .before .before .before .before .before .before .before .before .before .before .before in
     let a = s₁ .args in
     let pre = s₁ .pre in
     let l = c .before .before .before .before .before .loop in
@@ -81,7 +92,7 @@ add-put-run-2 c =
 
 put-run-requires : tie.Need-put-run-requires Inv-loop μ-loop
 put-run-requires c κs =
-    let s₁ = c .before .before .before .before .before .before .before .before .before in
+    let s₁ = c .before .before .before .before .before .before .before .before .before .before .before .before in
     let a = s₁ .args in
     let pre = s₁ .pre in
     let l = c .before .before .before .before .before .loop in
@@ -95,11 +106,11 @@ put-run-requires c κs =
 
 mul-r : tie.Need-mul-r Inv-loop μ-loop
 mul-r c =
-    let u = c .before .before .before .before .before .before .before .before .before .before .before .before .before .pre .2 .fits-r in omega arith
+    let u = c .before .before .before .before .before .before .before .before .before .before .before .before .before .before .before .before .pre .2 .fits-r in omega arith
 
 add-r : tie.Need-add-r Inv-loop μ-loop
 add-r c =
-    let s₁ = c .before .before .before .before .before .before .before .before .before .before .before .before .before in
+    let s₁ = c .before .before .before .before .before .before .before .before .before .before .before .before .before .before .before .before in
     let a = s₁ .args in
     let pre = s₁ .pre in
     let l = c .before .before .before .before .before .before .before .before .before .loop in
@@ -110,11 +121,11 @@ add-r c =
 
 mul-s : tie.Need-mul-s Inv-loop μ-loop
 mul-s c =
-    let u = c .before .before .before .before .before .before .before .before .before .before .before .before .before .before .pre .2 .fits-s in omega arith
+    let u = c .before .before .before .before .before .before .before .before .before .before .before .before .before .before .before .before .before .pre .2 .fits-s in omega arith
 
 add-s : tie.Need-add-s Inv-loop μ-loop
 add-s c =
-    let s₁ = c .before .before .before .before .before .before .before .before .before .before .before .before .before .before in
+    let s₁ = c .before .before .before .before .before .before .before .before .before .before .before .before .before .before .before .before .before in
     let a = s₁ .args in
     let pre = s₁ .pre in
     let l = c .before .before .before .before .before .before .before .before .before .before .loop in
@@ -125,7 +136,7 @@ add-s c =
 
 add-done : tie.Need-add-done Inv-loop μ-loop
 add-done c =
-    let s₁ = c .before .before .before .before .before .before .before .before .before .before .before .before .before .before in
+    let s₁ = c .before .before .before .before .before .before .before .before .before .before .before .before .before .before .before .before .before in
     let a = s₁ .args in
     let pre = s₁ .pre in
     let l = c .before .before .before .before .before .before .before .before .before .before .loop in
@@ -136,7 +147,7 @@ add-done c =
 
 loop-less : tie.Need-loop-less Inv-loop μ-loop
 loop-less c =
-    let s₁ = c .before .before .before .before .before .before .before .before .before .before .before .before .before .before in
+    let s₁ = c .before .before .before .before .before .before .before .before .before .before .before .before .before .before .before .before .before in
     let a = s₁ .args in
     let pre = s₁ .pre in
     let l = c .before .before .before .before .before .before .before .before .before .before .loop in
@@ -147,7 +158,7 @@ loop-less c =
 
 loop-again : tie.Need-loop-again Inv-loop μ-loop
 loop-again c =
-    let s₁ = c .before .before .before .before .before .before .before .before .before .before .before .before .before .before in
+    let s₁ = c .before .before .before .before .before .before .before .before .before .before .before .before .before .before .before .before .before in
     let a = s₁ .args in
     let pre = s₁ .pre in
     let l = c .before .before .before .before .before .before .before .before .before .before .loop in
@@ -181,6 +192,9 @@ by-periods-spec =
     Inv-loop
     μ-loop
     mul-n
+    all-ones-requires
+    sub-all-ones
+    all-ones-requires-2
     at-requires
     loop-holds
     add-loop

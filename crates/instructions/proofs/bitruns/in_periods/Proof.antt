@@ -1,10 +1,8 @@
 -- `instructions::bitruns::in_periods` meets its contract. Three parts, one after another.
 use mathlib.Core.Path.{_≡_, refl, _∙_}
-use mathlib.Core.List.{List}
-use Prim.Native.Nat.{ℕ, _+_, _-_, _%_, _<_, _≤_}
+use Prim.Native.Nat.{ℕ, _+_, _-_, _%_, _<_}
 use native.Mathlib.Nat.{mod-lt}
 use native.Mathlib.Omega.{arith}
-use lib.ListN.{length}
 use Rattle.instructions.proofs.Weaving.{past}
 use Rattle.instructions.proofs.Periodic.{ready-less, done-join}
 use borrow.Author.Needs.{needs}

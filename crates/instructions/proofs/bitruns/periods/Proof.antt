@@ -21,9 +21,9 @@ add-run c = search needs
 run-requires : tie.Need-run-requires
 run-requires c κs = search needs
 
-spread-requires : tie.Need-spread-requires
-spread-requires c κs =
-    let pre = c .before .before .before .before .before .pre in (pre .0 .part-r, pre .1 .gap, pre .1 .fits, pre .1 .fits-r)
+pieces-requires : tie.Need-pieces-requires
+pieces-requires c κs =
+    let pre = c .before .before .before .before .before .pre in (pre .0 .part-r, pre .1 .gap, pre .1 .fits, pre .1 .fits-r, pre .4)
 
 shl-heads : tie.Need-shl-heads
 shl-heads c = search needs
@@ -40,9 +40,9 @@ add-run-2 c = search needs
 run-requires-2 : tie.Need-run-requires-2
 run-requires-2 c κs = c .before .before .before .before .before .before .before .before .before .pre .3 (c .before .before .if1 .taken)
 
-spread-requires-2 : tie.Need-spread-requires-2
-spread-requires-2 c κs =
-    let pre = c .before .before .before .before .before .before .before .before .before .before .pre in (omega arith, pre .1 .gap, pre .1 .fits, pre .1 .fits-s)
+pieces-requires-2 : tie.Need-pieces-requires-2
+pieces-requires-2 c κs =
+    let pre = c .before .before .before .before .before .before .before .before .before .before .pre in (omega arith, pre .1 .gap, pre .1 .fits, pre .1 .fits-s, pre .5)
 
 add-result : tie.Need-add-result
 add-result c =
@@ -52,7 +52,7 @@ add-result c =
     let a = s₃ .args in
     let pre = s₃ .pre in
     let L = size (a .m .now) in
-    record { fits = sum-fits L (a .both) (a .p) (a .r) (a .s) (a .t) (num (a .m .now)) (s₂ .run .result) (s₁ .spread .result) (pre .0) (pre .1) (s₂ .run .ensures) (s₁ .spread .ensures) (c .before .run2 .result) (c .spread2 .result) (c .spread2 .ensures) }
+    record { fits = sum-fits L (a .both) (a .p) (a .r) (a .s) (a .t) (num (a .m .now)) (s₂ .run .result) (s₁ .pieces .result) (pre .0) (pre .1) (s₂ .run .ensures) (s₁ .pieces .ensures) (c .before .run2 .result) (c .pieces2 .result) (c .pieces2 .ensures) }
 
 returns : tie.Need-returns
 returns c =
@@ -62,7 +62,7 @@ returns c =
     let a = s₃ .args in
     let pre = s₃ .pre in
     let L = size (a .m .now) in
-    sum-is L (a .both) (a .p) (a .r) (a .s) (a .t) (num (a .m .now)) (s₂ .run .result) (s₁ .spread .result) (pre .0) (pre .1) (s₂ .run .ensures) (s₁ .spread .ensures) (c .before .run2 .result) (c .spread2 .result) (c .before .before .before .before .if1 .taken) (c .before .run2 .ensures) (c .spread2 .ensures)
+    sum-is L (a .both) (a .p) (a .r) (a .s) (a .t) (num (a .m .now)) (s₂ .run .result) (s₁ .pieces .result) (pre .0) (pre .1) (s₂ .run .ensures) (s₁ .pieces .ensures) (c .before .run2 .result) (c .pieces2 .result) (c .before .before .before .before .if1 .taken) (c .before .run2 .ensures) (c .pieces2 .ensures)
 
 returns-2 : tie.Need-returns-2
 returns-2 c =
@@ -72,7 +72,7 @@ returns-2 c =
     let a = s₃ .args in
     let pre = s₃ .pre in
     let L = size (a .m .now) in
-    alone-is L (a .both) (a .p) (a .r) (a .s) (a .t) (num (a .m .now)) (s₂ .run .result) (s₁ .spread .result) (pre .0) (pre .1) (s₂ .run .ensures) (s₁ .spread .ensures) (c .if1 .left)
+    alone-is L (a .both) (a .p) (a .r) (a .s) (a .t) (num (a .m .now)) (s₂ .run .result) (s₁ .pieces .result) (pre .0) (pre .1) (s₂ .run .ensures) (s₁ .pieces .ensures) (c .if1 .left)
 
 pub periods-spec : {M : Type 1} → statement M
 periods-spec =
@@ -83,13 +83,13 @@ periods-spec =
     mul-run
     add-run
     run-requires
-    spread-requires
+    pieces-requires
     shl-heads
     mul-run-2
     sub-run
     add-run-2
     run-requires-2
-    spread-requires-2
+    pieces-requires-2
     add-result
     returns
     returns-2)

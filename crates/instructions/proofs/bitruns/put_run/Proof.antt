@@ -1,11 +1,9 @@
 -- `instructions::bitruns::put_run` meets its contract. In one word, or in two side by side.
-use mathlib.Core.Path.{_≡_, ap, ap₂, _∙_}
-use Prim.Native.Nat.{ℕ, _+_, _-_, _/_, _%_, _^_, _<_, _≤_}
+use mathlib.Core.Path.{_≡_}
+use Prim.Native.Nat.{_-_, _%_}
 use native.Mathlib.Omega.{arith}
 use borrow.Author.Needs.{needs}
 use lib.ListN.{length}
-use lib.Pow.{shr-lt}
-use Rattle.fields.specs.Bytes.{num, size}
 use Rattle.fields.proofs.Places.{field-lt}
 use Rattle.instructions.proofs.Wordwise.{left-part, two-words}
 use Rattle.instructions.proofs.bitruns.put_run.Statement.{statement}

@@ -1,6 +1,6 @@
 -- `instructions::bitruns::spread` meets its contract. The invariant: k pieces are in place.
 use mathlib.Core.Path.{_≡_, refl, ap, _∙_}
-use Prim.Native.Nat.{ℕ, _+_, _-_, _*_, _^_, _≤_, _<_}
+use Prim.Native.Nat.{_+_, _-_, _*_, _≤_}
 use native.Mathlib.Nat.{mul-le-mul-right}
 use native.Mathlib.Omega.{arith}
 use Rattle.instructions.specs.Loops.{spreadOf}

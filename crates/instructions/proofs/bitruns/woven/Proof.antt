@@ -1,5 +1,4 @@
 -- `instructions::bitruns::woven` meets its contract. Either way.
-use Prim.Native.Nat.{ℕ, _≤_}
 use native.Mathlib.Omega.{arith}
 use Rattle.instructions.proofs.Periodic.{chunk-of}
 use borrow.Author.Needs.{needs}
