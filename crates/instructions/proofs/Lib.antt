@@ -35,6 +35,7 @@ pub mod Working
 pub mod Promised
 pub mod Readied
 pub mod PlansMade
+pub mod Counting
 pub mod Stepped
 pub mod Unions
 pub mod Steps

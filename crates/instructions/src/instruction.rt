@@ -12,6 +12,8 @@ use crate::effects;
 use crate::fetch::length_of;
 use crate::items;
 use crate::items::Plan;
+use crate::layout::run_in;
+use crate::layout::runs;
 use crate::operands::Operands;
 use crate::operands::code_in;
 use crate::plans::plan_at;
@@ -41,11 +43,16 @@ fn plan(word: u64, o: Operands) -> Plan
     }
 }
 
-// How many items it has.
+// How many items it has. The lengths say so, without the plan.
 pub fn count(word: u64, o: Operands) -> u64
     ensures { λ r. ⌜ r ≡ countOf word o ⌝ }
 {
-    items::items(plan(word, o)) as u64
+    match code_in(word) {
+        0x14 => runs(o).compress_items().0,
+        0x15 => runs(o).merge_items().0,
+        0x16 => runs(o).merge_items().0,
+        _ => run_in(o.c) as u64,
+    }
 }
 
 // Items from, .., from + count - 1 of an instruction that no check refuses. Gives the flags.

@@ -1,8 +1,8 @@
-// The items of a vector, bit or move instruction: its plan, how many they are, and their work.
+// The items of a vector, bit or move instruction: its plan, and their work.
 ghost use mathlib.Core.Path.{_≡_};
 ghost use Prim.Native.Nat.{_+_, _≤_};
 ghost use Rattle.instructions.specs.Items.{Turned};
-ghost use Rattle.instructions.specs.Plan.{shape, itemsOf, bitItems};
+ghost use Rattle.instructions.specs.Plan.{shape, itemsOf};
 ghost use Rattle.instructions.specs.Accepted.{Ready};
 use crate::bitruns;
 use crate::lanes;
@@ -80,30 +80,6 @@ pub enum Plan {
     Vector(VectorPlan),
     Bits(BitPlan),
     Move(MovePlan),
-}
-
-// How many items there are.
-pub fn items(plan: Plan) -> usize
-    ensures { λ r. ⌜ r ≡ itemsOf plan ⌝ }
-{
-    match plan {
-        Plan::Vector(v) => v.items as usize,
-        Plan::Bits(b) => bit_items(b),
-        Plan::Move(v) => v.items as usize,
-    }
-}
-
-// Those of a bit instruction.
-fn bit_items(plan: BitPlan) -> usize
-    ensures { λ r. ⌜ r ≡ bitItems (plan .rule) (plan .runs) ⌝ }
-{
-    let rule = plan.rule;
-    let runs = plan.runs;
-    match rule {
-        Rule::Compress => runs.compress_items().0 as usize,
-        Rule::Merge => runs.merge_items().0 as usize,
-        Rule::Mask => runs.merge_items().0 as usize,
-    }
 }
 
 // Items from..from + count of an accepted instruction.

@@ -1,16 +1,65 @@
 -- `instructions::instruction::count` meets its contract. Assumes nothing.
+use mathlib.Core.Path.{_∙_, ap}
 use borrow.Author.Needs.{needs}
+use Rattle.fields.specs.declared.gathers.Runs.{Runs}
+use Rattle.fields.specs.Gathers.{compressItems, mergeItems}
+use Rattle.instructions.proofs.Counting.{compress-counts, merge-counts, mask-counts, length-counts}
 use Rattle.instructions.proofs.instruction.count.Statement.{statement}
 use Rattle.instructions.proofs.instruction.count.Tie as tie
 
-plan-requires : tie.Need-plan-requires
-plan-requires c κs = search needs
+code-in-requires : tie.Need-code-in-requires
+code-in-requires c κs = search needs
 
-items-requires : tie.Need-items-requires
-items-requires c κs = search needs
+runs-requires : tie.Need-runs-requires
+runs-requires c κs = search needs
+
+compress-items-requires : tie.Need-compress-items-requires
+compress-items-requires c κs = search needs
+
+runs-requires-2 : tie.Need-runs-requires-2
+runs-requires-2 c κs = search needs
+
+merge-items-requires : tie.Need-merge-items-requires
+merge-items-requires c κs = search needs
+
+runs-requires-3 : tie.Need-runs-requires-3
+runs-requires-3 c κs = search needs
+
+merge-items-requires-2 : tie.Need-merge-items-requires-2
+merge-items-requires-2 c κs = search needs
+
+run-in-requires : tie.Need-run-in-requires
+run-in-requires c κs = search needs
+
+cast-result : tie.Need-cast-result
+cast-result c = search needs
 
 returns : tie.Need-returns
-returns c = cc
+returns c = compress-counts (c .before .before .before .before .args .word) (c .before .before .before .before .args .o) (c .before .before .before .code-in .ensures .0) (c .before .before .match .keys1) (c .compress-items .ensures ∙ ap (λ (t : Runs). compressItems t) (c .before .runs .ensures))
+
+returns-2 : tie.Need-returns-2
+returns-2 c = merge-counts (c .before .before .before .before .args .word) (c .before .before .before .before .args .o) (c .before .before .before .code-in .ensures .0) (c .before .before .match .keys2) (c .merge-items .ensures ∙ ap (λ (t : Runs). mergeItems t) (c .before .runs2 .ensures))
+
+returns-3 : tie.Need-returns-3
+returns-3 c = mask-counts (c .before .before .before .before .args .word) (c .before .before .before .before .args .o) (c .before .before .before .code-in .ensures .0) (c .before .before .match .keys3) (c .merge-items2 .ensures ∙ ap (λ (t : Runs). mergeItems t) (c .before .runs3 .ensures))
+
+returns-4 : tie.Need-returns-4
+returns-4 c = length-counts (c .before .before .before .args .word) (c .before .before .before .args .o) (c .before .before .code-in .ensures .0) (c .before .match .rest .0 .0 .1) (c .before .match .rest .0 .1) (c .before .match .rest .1) (c .run-in .ensures)
 
 pub count-spec : {M : Type 1} → statement M
-count-spec = tie.close (tie.spec plan-requires items-requires returns)
+count-spec =
+    tie.close
+    (tie.spec
+    code-in-requires
+    runs-requires
+    compress-items-requires
+    runs-requires-2
+    merge-items-requires
+    runs-requires-3
+    merge-items-requires-2
+    run-in-requires
+    cast-result
+    returns
+    returns-2
+    returns-3
+    returns-4)
