@@ -2,7 +2,8 @@
 use mathlib.Core.Path.{_≡_, refl, sym, ap, subst, _∙_}
 use mathlib.Core.Bool.{true}
 use mathlib.Core.List.{List}
-use Prim.Native.Nat.{ℕ, _+_, _≤_}
+use Prim.Native.Nat.{ℕ, _+_, _≤_, _<_}
+use native.Mathlib.Omega.{arith}
 use lib.Bits.{bitOr}
 use lib.ListN.{length}
 use Rattle.fields.specs.Bytes.{num}
@@ -22,13 +23,19 @@ use Rattle.instructions.proofs.Outcomes.{reached-reaches}
 use Rattle.instructions.proofs.Readied.{ready}
 
 pub work-asks : (m : List ℕ) (p w : ℕ) (o : Operands) (plan : P.Plan) (from count : ℕ) → plan ≡ planOf w o
-    → rightLength (length m) ≡ true → verdictOf p w o (length m) ≡ 0 → byItems w ≡ true → from + count ≤ countOf w o → Ready m plan × (from + count ≤ itemsOf plan)
-work-asks m p w o plan from count e right passes is l = rw e (ready m p w o right is passes, l)
+    → rightLength (length m) ≡ true → verdictOf p w o (length m) ≡ 0 → byItems w ≡ true → from + count ≤ countOf w o → (count ≡ 0 → ⊥)
+    → Ready m plan × (from + count ≤ itemsOf plan) × (0 < count)
+work-asks m p w o plan from count e right passes is l some = rw e (ready m p w o right is passes, l, omega arith)
 
 pub work-did : (w : ℕ) (o : Operands) (plan : P.Plan) (from count : ℕ) (m : List ℕ) (f : ℕ) (m' : List ℕ) (f' : ℕ) → plan ≡ planOf w o → Turned (shape plan) from count m f m' f'
     → (length m' ≡ length m) × (worked (num m') f' ≡ worksOf w o (length m) from count (worked (num m) f))
 unfolding worksOf
 work-did w o plan from count m f m' f' e t = (t .as-long, rw (← e) (t .does))
+
+pub none-did : (w : ℕ) (o : Operands) (from count : ℕ) (m : List ℕ) (f : ℕ) → count ≡ 0
+    → (length m ≡ length m) × (worked (num m) f ≡ worksOf w o (length m) from count (worked (num m) f))
+unfolding worksOf
+none-did w o from count m f e = (refl, rw e)
 
 pub apply-asks : (m : List ℕ) (w : ℕ) (o : Operands) (u : Outcome) → u ≡ scalarOf w o (length m) (num m) → Reached w o m → Reaches (u .effect) m
 apply-asks m w o u e r = subst (λ (v : Outcome). Reaches (v .effect) m) (sym e) (reached-reaches w o m r)

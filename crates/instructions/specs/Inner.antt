@@ -8,7 +8,8 @@ use Rattle.instructions.specs.declared.layout.Fields.{Fields}
 use Rattle.instructions.specs.declared.table.Row.{Row}
 use Rattle.instructions.specs.declared.table.Found.{Found}
 use Rattle.instructions.specs.declared.table.Found.the-variants.{At, Nothing}
-use Rattle.instructions.specs.Table.{codeOf, kindOf, rows, find}
+use Rattle.instructions.specs.Table.{codeOf, kindOf, rows, find, found}
+use Rattle.instructions.specs.Operands.{rowSays}
 use Rattle.instructions.specs.Layout.{ofKind}
 use Rattle.instructions.specs.Verdict.{checks, first}
 
@@ -29,3 +30,7 @@ listedOf r w o n = first (drop 4 checks) (record { p = 0; word = w; row = At r; 
 -- 8 to 11 of the list, of fields
 unfoldable pub refusalOf : Fields → ℕ → ℕ
 refusalOf f n = first (drop 5 checks) (record { p = 0; word = 0; row = Nothing; fields = f; bytes = n })
+
+-- the kind of a code, 0 where it is not in the table
+unfoldable pub kindFor : ℕ → ℕ
+kindFor k = rowSays 0 kindOf (found k)

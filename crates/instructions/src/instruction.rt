@@ -7,16 +7,16 @@ ghost use Rattle.fields.specs.Bytes.{num};
 ghost use Rattle.fields.specs.Memory.{rightLength};
 ghost use Rattle.instructions.specs.Items.{worked};
 ghost use Rattle.instructions.specs.Verdict.{verdictOf};
-ghost use Rattle.instructions.specs.Instruction.{byItems, planOf, countOf, worksOf, done, actsOf};
+ghost use Rattle.instructions.specs.Instruction.{byItems, countOf, worksOf, done, actsOf};
 use crate::effects;
 use crate::fetch::length_of;
 use crate::items;
-use crate::items::Plan;
+use crate::items::Rule;
 use crate::layout::run_in;
 use crate::layout::runs;
 use crate::operands::Operands;
 use crate::operands::code_in;
-use crate::plans::plan_at;
+use crate::plans;
 use crate::scalars;
 use crate::table;
 use crate::table::Found;
@@ -30,16 +30,6 @@ pub fn by_items(word: u64) -> bool
     match found {
         Found::Nothing => false,
         Found::At(row) => table::COMPRESS <= row.kind(),
-    }
-}
-
-fn plan(word: u64, o: Operands) -> Plan
-    ensures { λ r. ⌜ r ≡ planOf word o ⌝ }
-{
-    let found = table::find(code_in(word) as u8);
-    match found {
-        Found::Nothing => plan_at(0, word, o),
-        Found::At(row) => plan_at(row.kind(), word, o),
     }
 }
 
@@ -68,7 +58,18 @@ pub fn work(
     requires { ⌜ (rightLength (length (now memory)) ≡ true) × (verdictOf p word o (length (now memory)) ≡ 0) × (byItems word ≡ true) × (from + count ≤ countOf word o) ⌝ }
     ensures { λ r. ⌜ (length (now (memory .exit)) ≡ length (now (memory .entry))) × (worked (num (now (memory .exit))) r ≡ worksOf word o (length (now (memory .entry))) from count (worked (num (now (memory .entry))) flags)) ⌝ }
 {
-    items::work(memory, plan(word, o), from as usize, count as usize, flags)
+    if count == 0 {
+        return flags;
+    }
+    let i = from as usize;
+    let n = count as usize;
+    match code_in(word) {
+        0x14 => items::bits(memory, plans::bits(Rule::Compress, o), i, n, flags),
+        0x15 => items::bits(memory, plans::bits(Rule::Merge, o), i, n, flags),
+        0x16 => items::bits(memory, plans::bits(Rule::Mask, o), i, n, flags),
+        0xF8 => items::moved(memory, plans::moved(word, o), i, n, flags),
+        _ => items::vector(memory, plans::vector(word, o), i, n, flags),
+    }
 }
 
 // The next P, and the flags.

@@ -1,8 +1,9 @@
-// The items of a vector, bit or move instruction: its plan, and their work.
+// The items of a vector, bit or move instruction: its plan, how many they are, and their work.
 ghost use mathlib.Core.Path.{_≡_};
-ghost use Prim.Native.Nat.{_+_, _≤_};
+ghost use Prim.Native.Nat.{_+_, _≤_, _<_};
+ghost use Rattle.instructions.specs.declared.items.Plan.the-variants.{Vector, Bits, Move};
 ghost use Rattle.instructions.specs.Items.{Turned};
-ghost use Rattle.instructions.specs.Plan.{shape, itemsOf};
+ghost use Rattle.instructions.specs.Plan.{shape, itemsOf, bitItems};
 ghost use Rattle.instructions.specs.Accepted.{Ready};
 use crate::bitruns;
 use crate::lanes;
@@ -82,7 +83,57 @@ pub enum Plan {
     Move(MovePlan),
 }
 
-// Items from..from + count of an accepted instruction.
+// How many items there are.
+pub fn items(plan: Plan) -> usize
+    ensures { λ r. ⌜ r ≡ itemsOf plan ⌝ }
+{
+    match plan {
+        Plan::Vector(v) => v.items as usize,
+        Plan::Bits(b) => bit_items(b),
+        Plan::Move(v) => v.items as usize,
+    }
+}
+
+// Those of a bit instruction.
+fn bit_items(plan: BitPlan) -> usize
+    ensures { λ r. ⌜ r ≡ bitItems (plan .rule) (plan .runs) ⌝ }
+{
+    let rule = plan.rule;
+    let runs = plan.runs;
+    match rule {
+        Rule::Compress => runs.compress_items().0 as usize,
+        Rule::Merge => runs.merge_items().0 as usize,
+        Rule::Mask => runs.merge_items().0 as usize,
+    }
+}
+
+// Items from..from + count of an accepted vector.
+pub fn vector(memory: &mut [u8], plan: VectorPlan, from: usize, count: usize, flags: u64) -> u64
+    requires { ⌜ Ready (now memory) (Vector plan) × (from + count ≤ itemsOf (Vector plan)) × (0 < count) ⌝ }
+    ensures { λ r. ⌜ Turned (shape (Vector plan)) from count (now (memory .entry)) flags (now (memory .exit)) r ⌝ }
+{
+    lanes::vector(memory, plan, from, count, flags)
+}
+
+// Those of a bit instruction, which sets no flags.
+pub fn bits(memory: &mut [u8], plan: BitPlan, from: usize, count: usize, flags: u64) -> u64
+    requires { ⌜ Ready (now memory) (Bits plan) × (from + count ≤ itemsOf (Bits plan)) × (0 < count) ⌝ }
+    ensures { λ r. ⌜ Turned (shape (Bits plan)) from count (now (memory .entry)) flags (now (memory .exit)) r ⌝ }
+{
+    bitruns::gather(memory, plan, from, count);
+    flags
+}
+
+// Those of a move, which sets none either.
+pub fn moved(memory: &mut [u8], plan: MovePlan, from: usize, count: usize, flags: u64) -> u64
+    requires { ⌜ Ready (now memory) (Move plan) × (from + count ≤ itemsOf (Move plan)) × (0 < count) ⌝ }
+    ensures { λ r. ⌜ Turned (shape (Move plan)) from count (now (memory .entry)) flags (now (memory .exit)) r ⌝ }
+{
+    moves::move_bytes(memory, plan, from, count);
+    flags
+}
+
+// Those of any.
 pub fn work(memory: &mut [u8], plan: Plan, from: usize, count: usize, flags: u64) -> u64
     requires { ⌜ Ready (now memory) plan × (from + count ≤ itemsOf plan) ⌝ }
     ensures { λ r. ⌜ Turned (shape plan) from count (now (memory .entry)) flags (now (memory .exit)) r ⌝ }
@@ -91,14 +142,8 @@ pub fn work(memory: &mut [u8], plan: Plan, from: usize, count: usize, flags: u64
         return flags;
     }
     match plan {
-        Plan::Vector(v) => lanes::vector(memory, v, from, count, flags),
-        Plan::Bits(b) => {
-            bitruns::gather(memory, b, from, count);
-            flags
-        }
-        Plan::Move(v) => {
-            moves::move_bytes(memory, v, from, count);
-            flags
-        }
+        Plan::Vector(v) => vector(memory, v, from, count, flags),
+        Plan::Bits(b) => bits(memory, b, from, count, flags),
+        Plan::Move(v) => moved(memory, v, from, count, flags),
     }
 }

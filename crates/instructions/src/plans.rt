@@ -1,12 +1,16 @@
 // The plan of a vector, bit or move instruction, from its word and operands.
 ghost use mathlib.Core.Path.{_≡_};
-ghost use Rattle.instructions.specs.Planned.{placeOf, sourceIn, controlIn, operationOf, vectorIn, secondIn, bitsIn, moveIn, planAt};
+ghost use Rattle.instructions.specs.Planned.{placeOf, sourceIn, controlIn, operationOf, vectorIn, secondIn, bitsIn, moveIn};
+ghost use Rattle.instructions.specs.Operands.{codeIn};
+ghost use Rattle.instructions.specs.Table.{twoSources};
+ghost use Rattle.instructions.specs.Inner.{kindFor};
+ghost use Rattle.instructions.specs.declared.items.Plan.the-variants.{Vector, Bits, Move};
+ghost use lib.Dec.{eqb};
 use crate::designators::designator;
 use crate::items::BitPlan;
 use crate::items::Control;
 use crate::items::MovePlan;
 use crate::items::Operation;
-use crate::items::Plan;
 use crate::items::Rule;
 use crate::items::SecondBits;
 use crate::items::Source;
@@ -20,7 +24,6 @@ use crate::operands::code_in;
 use crate::operands::g_bit_1;
 use crate::operands::g_bit_3;
 use crate::operands::g_bit_4;
-use crate::table;
 use fields::units::BitAddress;
 use fields::units::ORIGIN;
 
@@ -71,18 +74,31 @@ fn operation(code: u64) -> Operation
     }
 }
 
-fn vector(kind: u8, word: u64, o: Operands) -> Plan
-    ensures { λ r. ⌜ r ≡ vectorIn kind word o ⌝ }
+// Whether B is a source, by the kind that the table gives.
+fn two_sources(code: u64) -> bool
+    ensures { λ r. ⌜ r ≡ eqb (kindFor code) twoSources ⌝ }
 {
-    let one_source = kind != table::TWO_SOURCES;
-    Plan::Vector(VectorPlan {
-        operation: operation(code_in(word)),
+    match code {
+        0x83 => true,
+        0x87 => true,
+        0x8A => true,
+        _ => false,
+    }
+}
+
+pub fn vector(word: u64, o: Operands) -> VectorPlan
+    ensures { λ r. ⌜ Vector r ≡ vectorIn (kindFor (codeIn word)) word o ⌝ }
+{
+    let code = code_in(word);
+    let one_source = !two_sources(code);
+    VectorPlan {
+        operation: operation(code),
         first: source(g_bit_3(word), o.a),
         second: source(one_source | g_bit_4(word), o.b),
         control: control(word, o.z),
         result: place(base_in(o.c)),
         items: run_in(o.c),
-    })
+    }
 }
 
 // S: zeros are taken for a base of zero.
@@ -96,39 +112,26 @@ fn second_bits(d: u64) -> SecondBits
     SecondBits::From(place(base))
 }
 
-fn bits(rule: Rule, o: Operands) -> Plan
-    ensures { λ r. ⌜ r ≡ bitsIn rule o ⌝ }
+pub fn bits(rule: Rule, o: Operands) -> BitPlan
+    ensures { λ r. ⌜ Bits r ≡ bitsIn rule o ⌝ }
 {
-    Plan::Bits(BitPlan {
+    BitPlan {
         rule: rule,
         first: place(base_in(o.g)),
         second: second_bits(o.x),
         result: place(base_in(o.a)),
         runs: runs(o),
-    })
+    }
 }
 
-fn moved(word: u64, o: Operands) -> Plan
-    ensures { λ r. ⌜ r ≡ moveIn word o ⌝ }
+pub fn moved(word: u64, o: Operands) -> MovePlan
+    ensures { λ r. ⌜ Move r ≡ moveIn word o ⌝ }
 {
-    Plan::Move(MovePlan {
+    MovePlan {
         source: place(plus_bytes(o.a, o.x)),
         length: run_in(o.a),
         fill: designator(word, 16) as u8,
         result: place(plus_bytes(o.c, o.z)),
         items: run_in(o.c),
-    })
-}
-
-// The plan, by the kind that the table gives.
-pub fn plan_at(kind: u8, word: u64, o: Operands) -> Plan
-    ensures { λ r. ⌜ r ≡ planAt kind word o ⌝ }
-{
-    match kind {
-        table::COMPRESS => bits(Rule::Compress, o),
-        table::MERGE => bits(Rule::Merge, o),
-        table::MASK => bits(Rule::Mask, o),
-        table::MOVE => moved(word, o),
-        _ => vector(kind, word, o),
     }
 }
