@@ -7,6 +7,7 @@ pub mod Soundness
 pub mod Iterating
 pub mod Performing
 pub mod Turning
+pub mod Taking
 pub mod Stepping
 pub mod Ending
 pub mod Answering

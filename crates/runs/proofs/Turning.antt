@@ -18,7 +18,7 @@ use Rattle.runs.specs.Records.{possible}
 use Rattle.runs.specs.Steps.{State, at, next, step, strides}
 use Rattle.runs.specs.Calls.{iterate, lengthsRight, Sound, call, closed, called, run}
 use Rattle.runs.specs.Controls.{control, Seen, seen, stateIn, beginning, turned, turnedAt, turn, finishing}
-use Rattle.runs.specs.Inner.{Performs, Within, counted, mayGo, resume, Advanced, Gone}
+use Rattle.runs.specs.Inner.{Performs, Within, counted, mayGo, resume, Advanced, Gone, Taken}
 use Rattle.runs.proofs.Choices.{cond-holds}
 use Rattle.runs.proofs.Numbered.{paused-only, step-answers}
 use Rattle.runs.proofs.Soundness.{strides-sound}
@@ -165,9 +165,18 @@ begins-sound bytes m r c budget d e h = go (lengthsRight bytes (length r)) refl 
     go true p false q k = absurd (false≢true (rw k at h))
     go false p b q k = absurd (false≢true (rw k at h))
 
+pub taken-ends : (bytes m : ℕ) (r : List ℕ) (bytes₁ m₁ : ℕ) (r₁ : List ℕ) (bytes' m' : ℕ) (r' : List ℕ) (c : Record) (budget : ℕ) (b d : Control)
+    → Taken (seen bytes m r (beginning bytes r c budget)) (seen bytes₁ m₁ r₁ b) → Gone (seen bytes₁ m₁ r₁ b) (seen bytes' m' r' d)
+    → called bytes' m' r' (finishing d budget) ≡ run budget (at bytes m r c)
+unfolding finishing
+taken-ends bytes m r bytes₁ m₁ r₁ bytes' m' r' c budget b d began g =
+    ap (closed budget) (sym (resume-over (seen bytes' m' r' d) (g .over)) ∙ g .same ∙ began .same) ∙ sym (run-begins bytes m r c budget)
+
+-- a call that only begins
+pub taken-begun : (bytes m : ℕ) (r : List ℕ) (c : Record) (budget : ℕ) (b : Control) → b ≡ beginning bytes r c budget
+    → Taken (seen bytes m r (beginning bytes r c budget)) (seen bytes m r b)
+taken-begun bytes m r c budget b e = record { same = ap (λ (x : Control). resume (seen bytes m r x)) e; sound = begins-sound bytes m r c budget b e }
+
 pub run-ends : (bytes m : ℕ) (r : List ℕ) (bytes' m' : ℕ) (r' : List ℕ) (c : Record) (budget : ℕ) (b d : Control) → b ≡ beginning bytes r c budget
     → Gone (seen bytes m r b) (seen bytes' m' r' d) → called bytes' m' r' (finishing d budget) ≡ run budget (at bytes m r c)
-unfolding finishing
-run-ends bytes m r bytes' m' r' c budget b d began g =
-    ap (closed budget) (sym (resume-over (seen bytes' m' r' d) (g .over)) ∙ g .same ∙ ap (λ (x : Control). resume (seen bytes m r x)) began)
-    ∙ sym (run-begins bytes m r c budget)
+run-ends bytes m r bytes' m' r' c budget b d began g = taken-ends bytes m r bytes m r bytes' m' r' c budget b d (taken-begun bytes m r c budget b began) g

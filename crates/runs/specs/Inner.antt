@@ -3,7 +3,7 @@ use mathlib.Core.Path.{_≡_}
 use mathlib.Core.Bool.{Bool, true, false, cond, _&&_}
 use mathlib.Core.List.{List}
 use Prim.Native.Nat.{ℕ, _+_, _-_, _<_, _≤_}
-use lib.Dec.{ltb}
+use lib.Dec.{eqb, leb, ltb}
 use lib.ListN.{length}
 use Rattle.fields.specs.Bytes.{num}
 use Rattle.fields.specs.Memory.{rightLength}
@@ -17,6 +17,7 @@ use Rattle.runs.specs.declared.control.Control.{Control}
 use Rattle.runs.specs.declared.performs.Performed.{Performed}
 use Rattle.runs.specs.declared.performs.Performed.the-variants.{Did, Ended}
 use Rattle.runs.specs.Answers.{paused}
+use Rattle.runs.specs.Records.{flagsRight, placeRight}
 use Rattle.runs.specs.Steps.{State, at, ended, next, step, strides, after}
 use Rattle.runs.specs.Calls.{Stopped, iterate, Sound}
 use Rattle.runs.specs.Controls.{control, Seen, stateIn}
@@ -70,3 +71,20 @@ pub record Advanced (v w : Seen) : Type 0 where
 pub record Gone (v w : Seen) : Type 0 where
   pub same : resume w ≡ resume v
   pub over : mayGo (w .control) ≡ false
+
+-- A control state that leads where another led, and is sound where no answer is known.
+pub record Taken (v w : Seen) : Type 0 where
+  pub same : resume w ≡ resume v
+  pub sound : paused (w .control .answer) ≡ true → Sound (stateIn w)
+
+-- `halfDone`, with the operands given.
+unfoldable pub holding : ℕ → Operands → Record → Bool
+holding bytes o r =
+    eqb (r .mark) 1
+    && (byItems (r .word)
+    && (eqb (verdictOf (r .p) (r .word) o bytes) 0
+    && (leb 1 (r .items) && ltb (r .items) (countOf (r .word) o))))
+
+-- `possible`, of what is half done.
+unfoldable pub goesOn : ℕ → Operands → Record → Bool
+goesOn bytes o r = placeRight (r .p) && (flagsRight (r .flags) && holding bytes o r)

@@ -6,14 +6,18 @@ ghost use lib.ListN.{length};
 ghost use Rattle.fields.specs.Bytes.{num};
 ghost use Rattle.runs.specs.Answers.{paused};
 ghost use Rattle.runs.specs.Calls.{Sound};
-ghost use Rattle.runs.specs.Controls.{seen, stateIn};
-ghost use Rattle.runs.specs.Inner.{Within, counted, mayGo, Advanced, Gone};
+ghost use Rattle.runs.specs.Controls.{seen, stateIn, beginning};
+ghost use Rattle.runs.specs.Inner.{Within, counted, mayGo, Advanced, Gone, Taken};
 use crate::answers::Answer;
 use crate::answers::is_paused;
+use crate::checks::goes_on;
+use crate::checks::lengths_right;
 use crate::control::Control;
 use crate::performs::Performed;
+use crate::performs::burst;
 use crate::performs::perform;
 use crate::records::Record;
+use instructions::operands::gather;
 
 // The control state after steps of one instruction, or with its answer.
 pub fn counted(rec: Record, left: u32, got: Performed) -> Control
@@ -70,4 +74,20 @@ pub fn go(c: Control, memory: &mut [u8], registers: &mut [u64]) -> Control
         d = advance(d, memory, registers);
     }
     d
+}
+
+// Begin, and go on at once with what is half done: its operands are gathered once, to be judged and to be worked with.
+pub fn take_up(memory: &mut [u8], registers: &[u64], rec: Record, budget: u32) -> Control
+    ensures { λ c. ⌜ Taken (seen (length (now (memory .entry))) (num (now (memory .entry))) (now (registers .entry)) (beginning (length (now (memory .entry))) (now (registers .entry)) rec budget)) (seen (length (now (memory .exit))) (num (now (memory .exit))) (now (registers .entry)) c) ⌝ }
+{
+    if (rec.mark == 1) & (0 < budget) {
+        if lengths_right(memory.len(), registers.len()) {
+            let o = gather(rec.word, registers);
+            if goes_on(rec, o, memory.len() as u64) {
+                let got = burst(memory, rec, rec.word, o, rec.items, budget);
+                return counted(rec, budget, got);
+            }
+        }
+    }
+    Control::begin(&memory[..], registers, rec, budget)
 }

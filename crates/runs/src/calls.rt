@@ -5,8 +5,8 @@ ghost use Rattle.fields.specs.Bytes.{num};
 ghost use Rattle.runs.specs.Steps.{at};
 ghost use Rattle.runs.specs.Calls.{called, run};
 use crate::advances::go;
+use crate::advances::take_up;
 use crate::answers::Answer;
-use crate::control::Control;
 use crate::records::Record;
 
 pub struct Outcome {
@@ -19,7 +19,7 @@ pub struct Outcome {
 pub fn run(memory: &mut [u8], registers: &mut [u64], rec: Record, budget: u32) -> Outcome
     ensures { λ r. ⌜ called (length (now (memory .exit))) (num (now (memory .exit))) (now (registers .exit)) r ≡ run budget (at (length (now (memory .entry))) (num (now (memory .entry))) (now (registers .entry)) rec) ⌝ }
 {
-    let c = Control::begin(&memory[..], &registers[..], rec, budget);
+    let c = take_up(memory, &registers[..], rec, budget);
     let end = go(c, memory, registers);
     end.finish(budget)
 }

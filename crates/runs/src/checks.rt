@@ -3,12 +3,14 @@ ghost use mathlib.Core.Path.{_≡_};
 ghost use lib.ListN.{length};
 ghost use Rattle.runs.specs.Records.{flagsRight, placeRight, betweenTwo, halfDone, possible};
 ghost use Rattle.runs.specs.Calls.{lengthsRight};
+ghost use Rattle.runs.specs.Inner.{holding, goesOn};
 use crate::records::Record;
 use crate::typed::verdict;
 use fields::memory::lent_length_is_right;
 use fields::units::ByteCount;
 use instructions::instruction::by_items;
 use instructions::instruction::count;
+use instructions::operands::Operands;
 use instructions::operands::gather;
 
 // Flags 42, 43 and 46.
@@ -49,10 +51,9 @@ fn between_two(rec: Record) -> bool
     false
 }
 
-// A vector, bit or move instruction that passes its checks, some of its items done and not all.
-pub fn half_done(rec: Record, bytes: u64, registers: &[u64]) -> bool
-    requires { ⌜ length (now registers) ≡ 256 ⌝ }
-    ensures { λ r. ⌜ r ≡ halfDone bytes (now (registers .entry)) rec ⌝ }
+// A vector, bit or move instruction that passes its checks with these operands, some of its items done and not all.
+fn holding(rec: Record, o: Operands, bytes: u64) -> bool
+    ensures { λ r. ⌜ r ≡ holding bytes o rec ⌝ }
 {
     let word = rec.word;
     if rec.mark != 1 {
@@ -61,7 +62,6 @@ pub fn half_done(rec: Record, bytes: u64, registers: &[u64]) -> bool
     if !by_items(word) {
         return false;
     }
-    let o = gather(word, registers);
     if verdict(rec.p, word, o, bytes) != 0 {
         return false;
     }
@@ -69,6 +69,28 @@ pub fn half_done(rec: Record, bytes: u64, registers: &[u64]) -> bool
         return false;
     }
     rec.items < count(word, o)
+}
+
+// .. with the operands that the registers supply.
+pub fn half_done(rec: Record, bytes: u64, registers: &[u64]) -> bool
+    requires { ⌜ length (now registers) ≡ 256 ⌝ }
+    ensures { λ r. ⌜ r ≡ halfDone bytes (now (registers .entry)) rec ⌝ }
+{
+    let o = gather(rec.word, registers);
+    holding(rec, o, bytes)
+}
+
+// Whether what is half done can go on, with the operands of its word.
+pub fn goes_on(rec: Record, o: Operands, bytes: u64) -> bool
+    ensures { λ r. ⌜ r ≡ goesOn bytes o rec ⌝ }
+{
+    if !place_right(rec.p) {
+        return false;
+    }
+    if !flags_right(rec.flags) {
+        return false;
+    }
+    holding(rec, o, bytes)
 }
 
 // One that a run can make.

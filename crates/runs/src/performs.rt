@@ -50,7 +50,14 @@ fn least(a: u64, b: u32) -> u32
 }
 
 // Items of a word from `done` on: those that are left, or as many as `most`.
-fn burst(memory: &mut [u8], rec: Record, word: u64, o: Operands, done: u64, most: u32) -> Performed
+pub fn burst(
+    memory: &mut [u8],
+    rec: Record,
+    word: u64,
+    o: Operands,
+    done: u64,
+    most: u32,
+) -> Performed
     requires { ⌜ Goes (length (now memory)) rec word o done ⌝ }
     ensures { λ r. ⌜ Bursts (now (memory .entry)) rec word o done (min (countOf word o - done) most) (now (memory .exit)) r ⌝ }
 {

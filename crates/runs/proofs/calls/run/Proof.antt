@@ -1,14 +1,14 @@
 -- `runs::calls::run` meets its contract. Assumes nothing.
 use borrow.Author.Needs.{needs}
-use Rattle.runs.proofs.Turning.{begins-sound, run-ends}
+use Rattle.runs.proofs.Turning.{taken-ends}
 use Rattle.runs.proofs.calls.run.Statement.{statement}
 use Rattle.runs.proofs.calls.run.Tie as tie
 
-begin-requires : tie.Need-begin-requires
-begin-requires c κs = search needs
+take-up-requires : tie.Need-take-up-requires
+take-up-requires c κs = search needs
 
 go-requires : tie.Need-go-requires
-go-requires c κs = begins-sound _ _ _ _ _ _ (c .before .before .begin .ensures)
+go-requires c κs = search needs
 
 finish-requires : tie.Need-finish-requires
 finish-requires c κs = search needs
@@ -20,9 +20,9 @@ same-length-2 : tie.Need-same-length-2
 same-length-2 c = search needs
 
 returns : tie.Need-returns
-returns c = rw (c .finish .ensures) (run-ends _ _ _ _ _ _ _ _ _ _ (c .before .before .before .before .before .before .before .before .begin .ensures) (c .before .before .before .before .before .go .ensures))
+returns c = rw (c .finish .ensures) (taken-ends _ _ _ _ _ _ _ _ _ _ _ _ _ (c .before .before .before .before .before .before .before .before .before .before .take-up .ensures) (c .before .before .before .before .before .go .ensures))
 
 pub run-spec : {M : Type 1} → statement M
 run-spec =
     tie.close
-    (tie.spec begin-requires go-requires finish-requires same-length same-length-2 returns)
+    (tie.spec take-up-requires go-requires finish-requires same-length same-length-2 returns)
