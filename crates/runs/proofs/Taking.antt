@@ -1,6 +1,6 @@
 -- A call begins, and what is half done goes on at once. Assumes nothing.
-use mathlib.Core.Path.{_≡_, refl}
-use mathlib.Core.Bool.{Bool, true, false, _||_}
+use mathlib.Core.Path.{_≡_, refl, sym, _∙_}
+use mathlib.Core.Bool.{Bool, true, false}
 use mathlib.Core.List.{List}
 use Prim.Native.Nat.{ℕ, _-_, _<_, min}
 use native.Mathlib.Omega.{arith}
@@ -9,55 +9,68 @@ use Rattle.fields.specs.Bytes.{num}
 use Rattle.instructions.specs.declared.operands.Operands.{Operands}
 use Rattle.instructions.specs.Operands.{gathered}
 use Rattle.instructions.specs.Instruction.{countOf}
-use Rattle.runs.specs.declared.answers.Answer.the-variants.{Paused}
+use Rattle.runs.specs.declared.answers.Answer.the-variants.{Paused, Lengths, Impossible}
 use Rattle.runs.specs.declared.records.Record.{Record}
-use Rattle.runs.specs.declared.control.Control.{Control}
 use Rattle.runs.specs.declared.performs.Performed.{Performed}
-use Rattle.runs.specs.Records.{flagsRight, placeRight, betweenTwo, halfDone, possible}
+use Rattle.runs.specs.declared.performs.Performed.the-variants.{Ended}
+use Rattle.runs.specs.Records.{betweenTwo, halfDone, possible}
 use Rattle.runs.specs.Calls.{lengthsRight}
 use Rattle.runs.specs.Controls.{control, seen, beginning}
 use Rattle.runs.specs.Inner.{Goes, Bursts, Within, counted, Taken, holding, goesOn}
-use Rattle.runs.proofs.Choices.{and-true}
+use Rattle.runs.proofs.Soundness.{possible-marked}
 use Rattle.runs.proofs.Performing.{held-goes, performs-held}
-use Rattle.runs.proofs.Turning.{performs-within, advanced-counted}
+use Rattle.runs.proofs.Turning.{performs-within, advanced-counted, taken-begun}
 
-goes-half : (bytes : ℕ) (registers : List ℕ) (c : Record) → goesOn bytes (gathered (c .word) registers) c ≡ true → halfDone bytes registers c ≡ true
-unfolding goesOn holding halfDone
-goes-half bytes registers c h = and-true (flagsRight (c .flags)) _ (and-true (placeRight (c .p)) _ h .1) .1
+-- of a record with the mark, with its operands
+goes-is : (bytes : ℕ) (registers : List ℕ) (c : Record) (o : Operands) → c .mark ≡ 1 → o ≡ gathered (c .word) registers → possible bytes registers c ≡ goesOn bytes o c
+unfolding possible goesOn betweenTwo halfDone holding
+goes-is bytes registers c o marked named = rw (marked, named)
 
-or-right : (a : Bool) → (a || true) ≡ true
-or-right true = refl
-or-right false = refl
+-- the answers 2 and 3, and none
+begins-2 : (bytes : ℕ) (registers : List ℕ) (c : Record) (budget : ℕ) → lengthsRight bytes (length registers) ≡ false → beginning bytes registers c budget ≡ control c budget Lengths
+unfolding beginning
+begins-2 bytes registers c budget wrong = rw wrong
 
-goes-can : (bytes : ℕ) (registers : List ℕ) (c : Record) → goesOn bytes (gathered (c .word) registers) c ≡ true → possible bytes registers c ≡ true
-unfolding possible goesOn
-goes-can bytes registers c h =
-    let h₁ = and-true (placeRight (c .p)) _ h in
-    let h₂ = and-true (flagsRight (c .flags)) _ (h₁ .1) in
-    rw (h₁ .0, h₂ .0, goes-half bytes registers c h) (or-right (betweenTwo c))
+begins-3 : (bytes : ℕ) (registers : List ℕ) (c : Record) (budget : ℕ) → lengthsRight bytes (length registers) ≡ true → possible bytes registers c ≡ false
+    → beginning bytes registers c budget ≡ control c budget Impossible
+unfolding beginning
+begins-3 bytes registers c budget right not = rw (right, not)
 
 begins : (bytes : ℕ) (registers : List ℕ) (c : Record) (budget : ℕ) → lengthsRight bytes (length registers) ≡ true → possible bytes registers c ≡ true
     → beginning bytes registers c budget ≡ control c budget Paused
 unfolding beginning
 begins bytes registers c budget right can = rw (right, can)
 
--- a call that goes on with what is half done
-module _ (m registers : List ℕ) (c : Record) (o : Operands) (budget : ℕ) (some : 0 < budget) (right : lengthsRight (length m) (length registers) ≡ true)
-    (named : o ≡ gathered (c .word) registers) (goes : goesOn (length m) o c ≡ true) where
-  known : goesOn (length m) (gathered (c .word) registers) c ≡ true
-  known = rw named at goes
+pub picks-2 : (m registers : List ℕ) (c : Record) (budget : ℕ) → lengthsRight (length m) (length registers) ≡ false
+    → Within budget (Ended Lengths) × Taken (seen (length m) (num m) registers (beginning (length m) registers c budget)) (seen (length m) (num m) registers (counted c budget (Ended Lengths)))
+picks-2 m registers c budget wrong = (tt, taken-begun (length m) (num m) registers c budget (control c budget Lengths) (sym (begins-2 (length m) registers c budget wrong)))
 
-  pub up-goes : Goes (length m) c (c .word) o (c .items)
-  up-goes = held-goes (length m) registers c o right (goes-half (length m) registers c known) named
+module _ (m registers : List ℕ) (c : Record) (o : Operands) (budget : ℕ) (marked : c .mark ≡ 1) (right : lengthsRight (length m) (length registers) ≡ true)
+    (named : o ≡ gathered (c .word) registers) where
+  pub picks-3 : goesOn (length m) o c ≡ false
+      → Within budget (Ended Impossible) × Taken (seen (length m) (num m) registers (beginning (length m) registers c budget)) (seen (length m) (num m) registers (counted c budget (Ended Impossible)))
+  picks-3 not = (
+    tt,
+    taken-begun (length m) (num m) registers c budget (control c budget Impossible)
+        (sym (begins-3 (length m) registers c budget right (goes-is (length m) registers c o marked named ∙ not))),
+  )
 
-  module _ (m' : List ℕ) (x : Performed) (b : Bursts m c (c .word) o (c .items) (min (countOf (c .word) o - c .items) budget) m' x) where
-    pub up-within : Within budget x
-    up-within = performs-within _ budget _ _ _ budget x (omega arith) (performs-held m registers c o budget (goes-half (length m) registers c known) named some m' x b)
+  module _ (goes : goesOn (length m) o c ≡ true) where
+    can : possible (length m) registers c ≡ true
+    can = goes-is (length m) registers c o marked named ∙ goes
 
-    pub taken-up : (d : Control) → d ≡ counted c budget x
-        → Taken (seen (length m) (num m) registers (beginning (length m) registers c budget)) (seen (length m') (num m') registers d)
-    taken-up d e =
-        let can = goes-can (length m) registers c known in
-        let a = advanced-counted (seen (length m) (num m) registers (control c budget Paused)) (length m') (num m') registers x refl some (record { lengths = right; can = can })
-        (performs-held m registers c o budget (goes-half (length m) registers c known) named some m' x b) in
-        rw (e, begins (length m) registers c budget right can) (record { same = a .same; sound = a .sound })
+    half : halfDone (length m) registers c ≡ true
+    half = possible-marked (length m) registers c can (λ e. omega arith)
+
+    pub picks-0 : Within budget (Ended Paused) × Taken (seen (length m) (num m) registers (beginning (length m) registers c budget)) (seen (length m) (num m) registers (counted c budget (Ended Paused)))
+    picks-0 = (tt, taken-begun (length m) (num m) registers c budget (control c budget Paused) (sym (begins (length m) registers c budget right can)))
+
+    pub picks-goes : Goes (length m) c (c .word) o (c .items)
+    picks-goes = held-goes (length m) registers c o right half named
+
+    pub picks-up : 0 < budget → (m' : List ℕ) (x : Performed) → Bursts m c (c .word) o (c .items) (min (countOf (c .word) o - c .items) budget) m' x
+        → Within budget x × Taken (seen (length m) (num m) registers (beginning (length m) registers c budget)) (seen (length m') (num m') registers (counted c budget x))
+    picks-up some m' x b =
+        let p = performs-held m registers c o budget half named some m' x b in
+        let a = advanced-counted (seen (length m) (num m) registers (control c budget Paused)) (length m') (num m') registers x refl some (record { lengths = right; can = can }) p in
+        (performs-within _ budget _ _ _ budget x (omega arith) p, rw (begins (length m) registers c budget right can) (record { same = a .same; sound = a .sound }))

@@ -77,14 +77,13 @@ pub record Taken (v w : Seen) : Type 0 where
   pub same : resume w ≡ resume v
   pub sound : paused (w .control .answer) ≡ true → Sound (stateIn w)
 
--- `halfDone`, with the operands given.
+-- `halfDone` of a record with the mark, with the operands given.
 unfoldable pub holding : ℕ → Operands → Record → Bool
 holding bytes o r =
-    eqb (r .mark) 1
-    && (byItems (r .word)
+    byItems (r .word)
     && (eqb (verdictOf (r .p) (r .word) o bytes) 0
-    && (leb 1 (r .items) && ltb (r .items) (countOf (r .word) o))))
+    && (leb 1 (r .items) && ltb (r .items) (countOf (r .word) o)))
 
--- `possible`, of what is half done.
+-- `possible`, so too.
 unfoldable pub goesOn : ℕ → Operands → Record → Bool
 goesOn bytes o r = placeRight (r .p) && (flagsRight (r .flags) && holding bytes o r)

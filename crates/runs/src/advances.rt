@@ -76,18 +76,31 @@ pub fn go(c: Control, memory: &mut [u8], registers: &mut [u64]) -> Control
     d
 }
 
-// Begin, and go on at once with what is half done: its operands are gathered once, to be judged and to be worked with.
+// What is half done, begun and gone on with: its operands are gathered once, to be judged and to be worked with.
+fn pick_up(memory: &mut [u8], registers: &[u64], rec: Record, budget: u32) -> Performed
+    requires { ⌜ rec .mark ≡ 1 ⌝ }
+    ensures { λ r. ⌜ Within budget r × Taken (seen (length (now (memory .entry))) (num (now (memory .entry))) (now (registers .entry)) (beginning (length (now (memory .entry))) (now (registers .entry)) rec budget)) (seen (length (now (memory .exit))) (num (now (memory .exit))) (now (registers .entry)) (counted rec budget r)) ⌝ }
+{
+    if !lengths_right(memory.len(), registers.len()) {
+        return Performed::Ended(Answer::Lengths);
+    }
+    let o = gather(rec.word, registers);
+    if !goes_on(rec, o, memory.len() as u64) {
+        return Performed::Ended(Answer::Impossible);
+    }
+    if budget == 0 {
+        return Performed::Ended(Answer::Paused);
+    }
+    burst(memory, rec, rec.word, o, rec.items, budget)
+}
+
+// Begin, and go on at once with what is half done.
 pub fn take_up(memory: &mut [u8], registers: &[u64], rec: Record, budget: u32) -> Control
     ensures { λ c. ⌜ Taken (seen (length (now (memory .entry))) (num (now (memory .entry))) (now (registers .entry)) (beginning (length (now (memory .entry))) (now (registers .entry)) rec budget)) (seen (length (now (memory .exit))) (num (now (memory .exit))) (now (registers .entry)) c) ⌝ }
 {
-    if (rec.mark == 1) & (0 < budget) {
-        if lengths_right(memory.len(), registers.len()) {
-            let o = gather(rec.word, registers);
-            if goes_on(rec, o, memory.len() as u64) {
-                let got = burst(memory, rec, rec.word, o, rec.items, budget);
-                return counted(rec, budget, got);
-            }
-        }
+    if rec.mark == 1 {
+        let got = pick_up(memory, registers, rec, budget);
+        return counted(rec, budget, got);
     }
     Control::begin(&memory[..], registers, rec, budget)
 }

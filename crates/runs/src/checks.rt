@@ -56,9 +56,6 @@ fn holding(rec: Record, o: Operands, bytes: u64) -> bool
     ensures { λ r. ⌜ r ≡ holding bytes o rec ⌝ }
 {
     let word = rec.word;
-    if rec.mark != 1 {
-        return false;
-    }
     if !by_items(word) {
         return false;
     }
@@ -71,16 +68,19 @@ fn holding(rec: Record, o: Operands, bytes: u64) -> bool
     rec.items < count(word, o)
 }
 
-// .. with the operands that the registers supply.
+// A record that holds one, with the operands that the registers supply.
 pub fn half_done(rec: Record, bytes: u64, registers: &[u64]) -> bool
     requires { ⌜ length (now registers) ≡ 256 ⌝ }
     ensures { λ r. ⌜ r ≡ halfDone bytes (now (registers .entry)) rec ⌝ }
 {
+    if rec.mark != 1 {
+        return false;
+    }
     let o = gather(rec.word, registers);
     holding(rec, o, bytes)
 }
 
-// Whether what is half done can go on, with the operands of its word.
+// Whether a record with the mark is possible, with the operands of its word.
 pub fn goes_on(rec: Record, o: Operands, bytes: u64) -> bool
     ensures { λ r. ⌜ r ≡ goesOn bytes o rec ⌝ }
 {
