@@ -1,8 +1,9 @@
--- How many items a word has, by its code and the lengths alone, and what its plan is, by its code. Assumes nothing.
-use mathlib.Core.Path.{_≡_, refl, sym, _∙_}
+-- What a code says without the table: whether a word goes by items, how many it has, by the lengths, and what its plan is. Assumes nothing.
+use mathlib.Core.Path.{_≡_, refl, sym, ap, _∙_}
+use mathlib.Core.List.{List, [], _∷_}
 use mathlib.Core.Bool.{Bool, true, false, cond, _||_}
 use Prim.Native.Nat.{ℕ}
-use lib.Dec.{eqb, T}
+use lib.Dec.{eqb, leb, T}
 use borrow.Author.Tests.{ne-eqb, eqb-true}
 use Rattle.fields.specs.Gathers.{compressItems, mergeItems}
 use Rattle.instructions.specs.declared.operands.Operands.{Operands}
@@ -11,14 +12,48 @@ use Rattle.instructions.specs.declared.items.Plan as P
 use Rattle.instructions.specs.declared.table.Row.{Row}
 use Rattle.instructions.specs.declared.table.Found.{Found}
 use Rattle.instructions.specs.declared.table.Found.the-variants.{At, Nothing}
-use Rattle.instructions.specs.Table.{compress, merge, mask, move, twoSources, codeOf, kindOf, found}
+use Rattle.instructions.specs.Table.{compress, merge, mask, move, twoSources, codeOf, kindOf, lookUp, found}
 use Rattle.instructions.specs.Operands.{codeIn, rowSays}
 use Rattle.instructions.specs.Layout.{lengthIn, runsOf}
 use Rattle.instructions.specs.Plan.{itemsOf}
 use Rattle.instructions.specs.Planned.{bitsIn, moveIn, vectorIn, planAt}
-use Rattle.instructions.specs.Instruction.{planOf, countOf}
-use Rattle.instructions.specs.Inner.{kindFor}
+use Rattle.instructions.specs.Instruction.{byItems, planOf, countOf}
+use Rattle.instructions.specs.Inner.{Past, kindFor}
+use Rattle.instructions.proofs.TablePlaces.{past}
 use Rattle.instructions.proofs.TableRules.{every, row-passes, found-code}
+
+-- the codes of what goes by items
+abbrev pub itemCodes : List ℕ
+itemCodes = 0x14 ∷ 0x15 ∷ 0x16 ∷ 0x83 ∷ 0x87 ∷ 0x8A ∷ 0x90 ∷ 0x91 ∷ 0x92 ∷ 0x96 ∷ 0x97 ∷ 0x98 ∷ 0xF8 ∷ []
+
+abbrev among : ℕ → Bool
+among k = lookUp (λ (x : ℕ). x) (λ (x : ℕ). true) false k itemCodes
+
+abbrev itemRule : Row → Bool
+itemRule r = cond (leb compress (kindOf r)) (among (codeOf r)) true
+
+not-items : (kind : ℕ) (b : Bool) → T (cond (leb compress kind) b true) → b ≡ false → false ≡ leb compress kind
+not-items kind b t e = go (leb compress kind) (rw e at t)
+  where
+    go : (d : Bool) → T (cond d false true) → false ≡ d
+    go true t = absurd t
+    go false t = refl
+
+found-other : (k : ℕ) (f : Found) → found k ≡ f → among k ≡ false → false ≡ rowSays false (λ r. leb compress (kindOf r)) f
+unfolding every
+found-other k Nothing e n = refl
+found-other k (At r) e n = not-items (kindOf r) (among (codeOf r)) (row-passes itemRule tt k r e) (ap among (found-code k r e) ∙ n)
+
+module _ (w : ℕ) {k : ℕ} (code : k ≡ codeIn w) where
+  pub goes-by-items : {j : ℕ} → k ≡ j → true ≡ rowSays false (λ r. leb compress (kindOf r)) (found j) → true ≡ byItems w
+  unfolding byItems
+  goes-by-items e h = h ∙ ap (λ (i : ℕ). rowSays false (λ r. leb compress (kindOf r)) (found i)) (sym e ∙ code)
+
+  pub goes-otherwise : Past (λ (x : ℕ). x) (Unit {0}) itemCodes k → false ≡ byItems w
+  unfolding byItems
+  goes-otherwise p =
+      found-other (codeIn w) (found (codeIn w)) refl
+      (ap among (sym code) ∙ past (λ (x : ℕ). x) (λ (x : ℕ). true) false k (Unit {0}) itemCodes [] p)
 
 -- a kind that one code alone has
 abbrev alone : ℕ → ℕ → Row → Bool

@@ -18,18 +18,27 @@ use crate::operands::Operands;
 use crate::operands::code_in;
 use crate::plans;
 use crate::scalars;
-use crate::table;
-use crate::table::Found;
 use fields::units::BitAddress;
 
-// A vector, bit or move instruction.
+// A vector, bit or move instruction. The code says so, without the table.
 pub fn by_items(word: u64) -> bool
     ensures { λ r. ⌜ r ≡ byItems word ⌝ }
 {
-    let found = table::find(code_in(word) as u8);
-    match found {
-        Found::Nothing => false,
-        Found::At(row) => table::COMPRESS <= row.kind(),
+    match code_in(word) {
+        0x14 => true,
+        0x15 => true,
+        0x16 => true,
+        0x83 => true,
+        0x87 => true,
+        0x8A => true,
+        0x90 => true,
+        0x91 => true,
+        0x92 => true,
+        0x96 => true,
+        0x97 => true,
+        0x98 => true,
+        0xF8 => true,
+        _ => false,
     }
 }
 
