@@ -40,7 +40,10 @@ fn outside(f: Fields, lent: ByteCount) -> bool
 fn clash(result: Field, source: Field) -> bool
     ensures { λ r. ⌜ r ≡ clash result source ⌝ }
 {
-    result.shares(source) & !result.in_place(source)
+    if result.shares(source) {
+        return !result.in_place(source);
+    }
+    false
 }
 
 // 11.
