@@ -1,12 +1,13 @@
 -- Where the word at P lies: a half word or a word that is there begins with a byte and ends in memory, as the reads ask, and with a word its first half is there.
 use mathlib.Core.Path.{_≡_, refl, sym, ap, _∙_}
-use mathlib.Core.Bool.{Bool, true, false, cond, not, _&&_, _||_}
+use mathlib.Core.Bool.{Bool, true, false, cond, not, _&&_, _||_, Bool·beq}
 use mathlib.Core.List.{List}
 use Prim.Native.Nat.{ℕ, _+_, _-_, _*_, _/_, _%_, _^_, _≤_, _<_}
 use native.Mathlib.Nat.{mod-eq-of-lt}
 use native.Mathlib.Omega.{arith}
+use lib.Dec.{leb, T}
 use lib.ListN.{length}
-use borrow.Author.Tests.{not-false}
+use borrow.Author.Tests.{not-false, lt-leb}
 use Rattle.fields.specs.declared.extents.Unit.the-variants.{HalfWord}
 use Rattle.fields.specs.Extents.{aligned, inside}
 use Rattle.fields.specs.Field.{field}
@@ -17,13 +18,31 @@ use Rattle.fields.proofs.FieldMeaning.{Multiple, aligned-multiple, inside-every
 use Rattle.instructions.specs.declared.table.Row.{Row}
 use Rattle.instructions.specs.declared.table.Found.{Found}
 use Rattle.instructions.specs.Operands.{codeIn, foundIn, rowSays}
-use Rattle.instructions.specs.Table.{formatOf, long, found}
+use Rattle.instructions.specs.Table.{codeOf, formatOf, long, found}
 use Rattle.instructions.specs.Fetch.{longIn, placeOf, there, wordAt, fetchOf, unfetchedAt}
+use Rattle.instructions.proofs.TableRules.{every, row-passes, found-code}
 use Rattle.instructions.proofs.VerdictTests.{both-true, both-false}
 
 -- what is asked of the row that a word's code was found to have
 pub row-found : {A : Type 0} (else : A) (ask : Row → A) (w k : ℕ) (f g : Found) → k ≡ codeIn w → f ≡ found k → f ≡ g → rowSays else ask g ≡ rowSays else ask (foundIn w)
 row-found else ask w k f g ek ef eg = ap (λ (h : Found). rowSays else ask h) (sym eg ∙ ef ∙ ap found ek)
+
+-- codes below 80 have 32 bits
+pub short-code : (w : ℕ) → codeIn w < 0x80 → false ≡ longIn w
+unfolding longIn every
+short-code w low = go (foundIn w) refl
+  where
+    go : (f : Found) → foundIn w ≡ f → false ≡ rowSays false (λ r. long (formatOf r)) f
+    go Found.Nothing e = refl
+    go (Found.At r) e = same (long (formatOf r)) (leb 0x80 (codeOf r)) (row-passes (λ x. Bool·beq (long (formatOf x)) (leb 0x80 (codeOf x))) tt (codeIn w) r e) (lt-leb 0x80 (codeOf r) (let c = found-code (codeIn w) r e in omega (arith, c)))
+      where
+        same : (a b : Bool) → T (Bool·beq a b) → b ≡ false → false ≡ a
+        same false b t e = refl
+        same true false t e = absurd t
+        same true true t e = sym e
+
+pub short-word : (w : ℕ) → w < 0x8000_0000_0000_0000 → false ≡ longIn w
+short-word w low = short-code w (let z : w / 2 ^ 56 % 2 ^ 8 < 0x80 = omega arith in z)
 
 module _ (p h n : ℕ) (some : 0 < h) (few : h ≤ 2) where
   bits : placeOf p h .bits .0 ≡ h * 32
@@ -44,6 +63,15 @@ module _ (p h n : ℕ) (some : 0 < h) (few : h ≤ 2) where
       let b : placeOf p h .bits .0 ≡ h * 32 = bits in
       rw (aligned-multiple (placeOf p h) (omega arith) .1 (record { times = p / 32; whole = omega arith }))
       (inside-every (placeOf p h) n .1 (λ x i. omega arith))
+
+  -- as the code asks it: in bytes, of which a start that is a multiple of 32 has a whole number before it
+  pub there-is : (b : Bool) → (b ≡ true → (0x4000 ≤ p) × (((p - 0x4000) / 8 + h * 4 ≤ n) × (p % 32 ≡ 0))) → (b ≡ false → 0x4000 ≤ p → p % 32 ≡ 0 → n < (p - 0x4000) / 8 + h * 4) → b ≡ there p h n
+  there-is true holds fails = let y = holds refl in sym (there-from (y .0) (omega (arith, y .0, y .1 .0, y .1 .1)) (y .1 .1))
+  there-is false holds fails = go (there p h n) refl
+    where
+      go : (t : Bool) → there p h n ≡ t → false ≡ t
+      go false e = refl
+      go true e = let t = there-ends e in let l = fails refl (t .0) (t .1 .1) in absurd (omega (arith, l, t .0, t .1 .0, t .1 .1))
 
 -- what the reads ask
 pub there-aligned : (m : List ℕ) (p h : ℕ) → 0 < h → h ≤ 2 → there p h (length m) ≡ true → Aligned m p (32 * h)

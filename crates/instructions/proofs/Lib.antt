@@ -11,6 +11,7 @@ pub mod LayoutMade
 pub mod FetchPlaces
 pub mod VerdictTests
 pub mod VerdictJudged
+pub mod VerdictSteps
 pub mod VerdictOrder
 pub mod VerdictMeaning
 pub mod VerdictEmpty

@@ -1,16 +1,17 @@
 -- An instruction as the layer above sees it, whatever it is: whether it goes by items, how many, what those do one by one and all at once, and what any other does
 -- in its one step. Memory is one number of so many bytes. Assumes nothing.
-use mathlib.Core.Bool.{Bool, false}
+use mathlib.Core.Bool.{Bool, false, not, _&&_}
 use mathlib.Core.List.{List}
 use Prim.Native.Nat.{ℕ, _*_}
 use lib.Bits.{bitOr}
-use lib.Dec.{leb}
+use lib.Dec.{eqb, leb}
 use Rattle.instructions.specs.declared.operands.Operands.{Operands}
 use Rattle.instructions.specs.declared.items.Plan as P
 use Rattle.instructions.specs.declared.effects.Outcome.{Outcome}
 use Rattle.instructions.specs.Table.{kindOf, compress}
 use Rattle.instructions.specs.Operands.{foundIn, rowSays}
 use Rattle.instructions.specs.Fetch.{lengthOf}
+use Rattle.instructions.specs.Verdict.{verdictOf}
 use Rattle.instructions.specs.Items.{Worked, worked, turns, whole}
 use Rattle.instructions.specs.Plan.{shape, itemsOf}
 use Rattle.instructions.specs.Planned.{planAt}
@@ -20,6 +21,10 @@ use Rattle.instructions.specs.Scalars.{scalarOf}
 -- 01, Steps: "A vector, bit or move instruction": the kinds from compress on.
 unfoldable pub byItems : ℕ → Bool
 byItems w = rowSays false (λ r. leb compress (kindOf r)) (foundIn w)
+
+-- 01, Steps: "Every other takes one": a word that no check refuses, and that does not go by items.
+unfoldable pub oneStep : ℕ → ℕ → Operands → ℕ → Bool
+oneStep p w o n = eqb (verdictOf p w o n) 0 && not (byItems w)
 
 -- Its plan.
 unfoldable pub planOf : ℕ → Operands → P.Plan

@@ -1,23 +1,26 @@
 // The instruction word at P.
 ghost use mathlib.Core.Path.{_≡_};
+ghost use Prim.Native.Nat.{_≤_, _<_};
 ghost use lib.ListN.{length};
 ghost use Rattle.fields.specs.Bytes.{num};
 ghost use Rattle.instructions.specs.Fetch.{longIn, lengthOf, there, wordAt, fetchOf, unfetchedAt};
 use crate::operands::code_in;
 use crate::table;
 use crate::table::Found;
-use fields::extents::Field;
 use fields::memory::read_half_word;
 use fields::memory::read_word;
 use fields::units::BitAddress;
 use fields::units::BitCount;
 use fields::units::ByteCount;
-use fields::units::HalfWordCount;
+use fields::units::ORIGIN;
 
 // The word is one of 64 bits.
 pub fn is_long(word: u64) -> bool
     ensures { λ r. ⌜ r ≡ longIn word ⌝ }
 {
+    if word < 0x8000_0000_0000_0000 { // no code below 80 has 64 bits
+        return false;
+    }
     let found = table::find(code_in(word) as u8);
     match found {
         Found::Nothing => false,
@@ -37,10 +40,16 @@ pub fn length_of(word: u64) -> BitCount
 
 // So many half words at P lie in the lent bytes, and P is a multiple of 32.
 fn there(p: BitAddress, half_words: u64, lent: ByteCount) -> bool
+    requires { ⌜ (0 < «half_words») × («half_words» ≤ 2) ⌝ }
     ensures { λ r. ⌜ r ≡ there (p .0) «half_words» (lent .0) ⌝ }
 {
-    let place = Field::of_half_words(p, HalfWordCount(half_words));
-    place.aligned() & place.inside(lent)
+    if p.0 % 32 != 0 {
+        return false;
+    }
+    if p.0 < ORIGIN {
+        return false;
+    }
+    (p.0 - ORIGIN) / 8 + half_words * 4 <= lent.0
 }
 
 // The 64 bits at P, with zeros for those that are not in memory.

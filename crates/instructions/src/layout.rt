@@ -104,14 +104,14 @@ fn no_fields() -> Fields
 }
 
 // 12 and 13: the byte at R plus S bytes.
-fn byte_at(o: Operands) -> Field
+pub fn byte_at(o: Operands) -> Field
     ensures { λ r. ⌜ r ≡ itemAt Byte o ⌝ }
 {
     Field::of_bytes(plus_bytes(o.g, o.x), ByteCount(1))
 }
 
 // 7E and 7F: the word at R plus S words.
-fn word_at(o: Operands) -> Field
+pub fn word_at(o: Operands) -> Field
     ensures { λ r. ⌜ r ≡ itemAt Word o ⌝ }
 {
     Field::of_words(plus_words(o.g, o.x), WordCount(1))

@@ -1,12 +1,18 @@
 // What refuses an instruction: the first of 01's numbers 4 to 11 and 1 that applies.
 ghost use mathlib.Core.Path.{_≡_};
 ghost use Rattle.instructions.specs.Verdict.{misaligned, outside, clash, overlapping, verdictOf};
-ghost use Rattle.instructions.specs.Inner.{refusalOf, listedOf};
+ghost use Rattle.instructions.specs.Inner.{refusalOf, listedOf, reachedBy, arrives, oneStepOf};
+ghost use Rattle.instructions.specs.Instruction.{oneStep};
+use crate::branches::taken;
+use crate::branches::target;
 use crate::fetch::is_long;
 use crate::fetch::unfetched;
 use crate::layout::Fields;
+use crate::layout::byte_at;
 use crate::layout::of_kind;
+use crate::layout::word_at;
 use crate::operands::Operands;
+use crate::table;
 use crate::table::EXIT;
 use crate::table::Row;
 use crate::words::Decoded;
@@ -101,6 +107,52 @@ pub fn verdict(p: BitAddress, word: u64, o: Operands, lent: ByteCount) -> u64
                 return 4;
             }
             listed(row, word, o, lent)
+        }
+    }
+}
+
+// The one field of a load or a store passes 8 and 10.
+fn reached(f: Field, lent: ByteCount) -> bool
+    ensures { λ r. ⌜ r ≡ reachedBy f (lent .0) ⌝ }
+{
+    f.aligned() & f.inside(lent)
+}
+
+// A branch passes 8.
+fn arrives(word: u64, o: Operands) -> bool
+    ensures { λ r. ⌜ r ≡ arrives word o ⌝ }
+{
+    let to = target(o);
+    !taken(word, o) | (to.0 % 32 == 0)
+}
+
+// A listed word of this kind takes one step, and passes 8 to 11.
+fn one_step_of(kind: u8, word: u64, o: Operands, lent: ByteCount) -> bool
+    ensures { λ r. ⌜ r ≡ oneStepOf kind word o (lent .0) ⌝ }
+{
+    match kind {
+        table::REGISTER => true,
+        table::BRANCH => arrives(word, o),
+        table::LOAD_BYTE => reached(byte_at(o), lent),
+        table::STORE_BYTE => reached(byte_at(o), lent),
+        table::LOAD_WORD => reached(word_at(o), lent),
+        table::STORE_WORD => reached(word_at(o), lent),
+        _ => false,
+    }
+}
+
+// No check refuses the word, and it does not go by items.
+pub fn one_step(p: BitAddress, word: u64, o: Operands, lent: ByteCount) -> bool
+    ensures { λ r. ⌜ r ≡ oneStep (p .0) word o (lent .0) ⌝ }
+{
+    let decoded = decode(word);
+    match decoded {
+        Decoded::Refused(_) => false,
+        Decoded::Listed(row) => {
+            if unfetched(p, row.long(), lent) {
+                return false;
+            }
+            one_step_of(row.kind(), word, o, lent)
         }
     }
 }

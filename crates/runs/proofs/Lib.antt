@@ -6,6 +6,7 @@ pub mod Bursting
 pub mod Soundness
 pub mod Iterating
 pub mod Performing
+pub mod Striding
 pub mod Turning
 pub mod Taking
 pub mod Stepping

@@ -1,6 +1,6 @@
 -- Steps of one instruction: what the code of `performs` does is what `Performs` asks, by the way that the code takes. Assumes nothing.
 use mathlib.Core.Path.{_≡_, refl, sym, _∙_, ap, ap₂}
-use mathlib.Core.Bool.{true, false}
+use mathlib.Core.Bool.{Bool, true, false, not, _&&_}
 use mathlib.Core.List.{List}
 use Prim.Native.Nat.{ℕ, _+_, _-_, _^_, _<_, _≤_, min}
 use native.Mathlib.Omega.{arith}
@@ -12,7 +12,7 @@ use Rattle.instructions.specs.Fetch.{lengthOf}
 use Rattle.instructions.specs.Operands.{gathered}
 use Rattle.instructions.specs.Verdict.{verdictOf}
 use Rattle.instructions.specs.Items.{Worked, worked}
-use Rattle.instructions.specs.Instruction.{byItems, countOf, worksOf, done, actsOf}
+use Rattle.instructions.specs.Instruction.{byItems, oneStep, countOf, worksOf, done, actsOf}
 use Rattle.instructions.proofs.Steps.{verdict-there}
 use Rattle.runs.specs.declared.answers.Answer.{Answer}
 use Rattle.runs.specs.declared.answers.Answer.the-variants.{Impossible}
@@ -23,7 +23,7 @@ use Rattle.runs.specs.Answers.{answerOf}
 use Rattle.runs.specs.Records.{halfDone, between}
 use Rattle.runs.specs.Steps.{State, at, ended, next, wordAt, operandsAt, verdictAt, itemsAt, after, burst, passed, finished, acted, begun, fresh, held, step, strides}
 use Rattle.runs.specs.Calls.{lengthsRight}
-use Rattle.runs.specs.Inner.{Goes, Bursts, Performs}
+use Rattle.runs.specs.Inner.{Goes, Bursts, Performs, oneStepAt}
 use Rattle.runs.proofs.Bursting.{holds-of, step-held, performs-burst}
 use Rattle.runs.proofs.Soundness.{lengths-of, small}
 
@@ -76,7 +76,7 @@ step-impossible s d h = rw (ne-eqb (s .rec .mark) 0 d, h)
 
 -- AN INSTRUCTION FROM ITS START
 
-step-fresh : (s : State) → s .rec .mark ≡ 0 → step s ≡ fresh s
+pub step-fresh : (s : State) → s .rec .mark ≡ 0 → step s ≡ fresh s
 unfolding step
 step-fresh s m = rw (eq-eqb _ _ m)
 
@@ -118,6 +118,15 @@ verdict-is s word o v f = f .verdict ∙ ap₂ (λ (w : ℕ) (x : Operands). ver
 
 items-are : (s : State) (word : ℕ) (o : Operands) (v : ℕ) → Fetched s word o v → countOf word o ≡ itemsAt s
 items-are s word o v f = ap₂ countOf (f .read) (operands-are s word o v f)
+
+-- a word that passes and does not take one step goes by items
+pub items-left : (s : State) (word : ℕ) (o : Operands) (v : ℕ) → Fetched s word o v → v ≡ 0 → oneStepAt s ≡ false → byItems word ≡ true
+unfolding oneStep
+items-left s word o v f zero other = ap byItems (f .read) ∙ go (byItems (wordAt s)) (rw (eq-eqb _ _ (sym (verdict-is s word o v f) ∙ zero)) at other)
+  where
+    go : (b : Bool) → (true && not b) ≡ false → b ≡ true
+    go true e = refl
+    go false e = sym e
 
 -- P after it
 pub fetched-past : (s : State) (word : ℕ) (o : Operands) (v : ℕ) → lengthsRight (s .bytes) (length (s .registers)) ≡ true → Fetched s word o v → v ≡ 0

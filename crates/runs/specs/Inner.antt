@@ -10,15 +10,16 @@ use Rattle.fields.specs.Memory.{rightLength}
 use Rattle.instructions.specs.declared.operands.Operands.{Operands}
 use Rattle.instructions.specs.Verdict.{verdictOf}
 use Rattle.instructions.specs.Items.{worked}
-use Rattle.instructions.specs.Instruction.{byItems, countOf, worksOf}
+use Rattle.instructions.specs.Instruction.{byItems, oneStep, countOf, worksOf}
 use Rattle.runs.specs.declared.answers.Answer.the-variants.{Paused}
 use Rattle.runs.specs.declared.records.Record.{Record}
 use Rattle.runs.specs.declared.control.Control.{Control}
+use Rattle.runs.specs.declared.strides.Pace.{Pace}
 use Rattle.runs.specs.declared.performs.Performed.{Performed}
 use Rattle.runs.specs.declared.performs.Performed.the-variants.{Did, Ended}
 use Rattle.runs.specs.Answers.{paused}
-use Rattle.runs.specs.Records.{flagsRight, placeRight}
-use Rattle.runs.specs.Steps.{State, at, ended, next, step, strides, after}
+use Rattle.runs.specs.Records.{flagsRight, placeRight, between}
+use Rattle.runs.specs.Steps.{State, at, ended, next, step, strides, after, wordAt, operandsAt}
 use Rattle.runs.specs.Calls.{Stopped, iterate, Sound}
 use Rattle.runs.specs.Controls.{control, Seen, stateIn}
 
@@ -39,6 +40,21 @@ pub record Bursts (m : List ℕ) (c : Record) (word : ℕ) (o : Operands) (i j :
 abbrev pub Performs : State → ℕ → ℕ → ℕ → List ℕ → Performed → Type 0
 Performs s most bytes m r (Did c j) = (0 < j) × ((j ≤ most) × (strides j s ≡ next (at bytes m r c)))
 Performs s most bytes m r (Ended a) = (step s ≡ ended a) × ((bytes ≡ s .bytes) × ((m ≡ s .memory) × (r ≡ s .registers)))
+
+-- The instruction at P takes one step.
+abbrev pub oneStepAt : State → Bool
+oneStepAt s = oneStep (s .rec .p) (wordAt s) (operandsAt s) (s .bytes)
+
+-- Where instructions of one step each have come to: nothing is half done.
+abbrev pub strideAt : ℕ → ℕ → List ℕ → Pace → State
+strideAt bytes m r s = at bytes m r (between (s .p) (s .flags))
+
+-- What a run of them gives, by what was left before and after: steps of the definition, until none is left or the next takes another way.
+pub record Strode (v : State) (left : ℕ) (w : State) (rest : ℕ) : Type 0 where
+  pub as-long : w .bytes ≡ v .bytes
+  pub few : rest ≤ left
+  pub steps : strides (left - rest) v ≡ next w
+  pub over : 0 < rest → oneStepAt w ≡ false
 
 -- No more steps were done than are left.
 abbrev pub Within : ℕ → Performed → Type 0

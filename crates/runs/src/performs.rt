@@ -1,6 +1,6 @@
 // Steps of one instruction: as many as it has left, or as many as are wanted.
 ghost use mathlib.Core.Path.{_≡_};
-ghost use mathlib.Core.Bool.{true};
+ghost use mathlib.Core.Bool.{true, false};
 ghost use Prim.Native.Nat.{_+_, _-_, _<_, _^_, min};
 ghost use lib.ListN.{length};
 ghost use Rattle.fields.specs.Bytes.{num};
@@ -9,16 +9,16 @@ ghost use Rattle.instructions.specs.Instruction.{countOf};
 ghost use Rattle.runs.specs.Records.{halfDone};
 ghost use Rattle.runs.specs.Steps.{at, after};
 ghost use Rattle.runs.specs.Calls.{lengthsRight, Sound};
-ghost use Rattle.runs.specs.Inner.{Performs, Goes, Bursts};
+ghost use Rattle.runs.specs.Inner.{Performs, Goes, Bursts, oneStepAt};
 use crate::answers::Answer;
 use crate::answers::of_number;
 use crate::checks::half_done;
 use crate::records::Record;
+use crate::strides::Pace;
+use crate::strides::stride;
 use crate::typed::fetch;
 use crate::typed::length_of;
 use crate::typed::verdict;
-use instructions::instruction::act;
-use instructions::instruction::by_items;
 use instructions::instruction::count;
 use instructions::instruction::work;
 use instructions::operands::Operands;
@@ -73,32 +73,45 @@ pub fn burst(
     }
 }
 
-// The instruction at P, from its start. Every check comes before its first step.
-fn start(memory: &mut [u8], registers: &mut [u64], rec: Record, most: u32) -> Performed
-    requires { ⌜ (0 < most) × (lengthsRight (length (now memory)) (length (now registers)) ≡ true) × (rec .mark ≡ 0) ⌝ }
+// The instruction at P, from its start, which is refused or goes by items. Every check comes before its first step.
+fn begin(memory: &mut [u8], registers: &[u64], rec: Record, most: u32) -> Performed
+    requires { ⌜ (0 < most) × (lengthsRight (length (now memory)) (length (now registers)) ≡ true) × (rec .mark ≡ 0) × (oneStepAt (at (length (now memory)) (num (now memory)) (now registers) rec) ≡ false) ⌝ }
     ensures { λ r. ⌜ Performs (at (length (now (memory .entry))) (num (now (memory .entry))) (now (registers .entry)) rec) most (length (now (memory .exit))) (num (now (memory .exit))) (now (registers .exit)) r ⌝ }
 {
     let p = rec.p;
     let word = fetch(&memory[..], p);
-    let o = gather(word, &registers[..]);
+    let o = gather(word, registers);
     let refused = verdict(p, word, o, memory.len() as u64);
     if refused != 0 {
         return Performed::Ended(of_number(refused));
     }
-    if by_items(word) {
-        if count(word, o) == 0 {
-            return Performed::Did {
-                rec: Record::between(p + length_of(word), rec.flags),
-                steps: 1,
-            };
-        }
-        return burst(memory, rec, word, o, 0, most);
+    if count(word, o) == 0 {
+        return Performed::Did {
+            rec: Record::between(p + length_of(word), rec.flags),
+            steps: 1,
+        };
     }
-    let d = act(memory, registers, p, word, o, rec.flags);
-    Performed::Did {
-        rec: Record::between(d.p, d.flags),
-        steps: 1,
+    burst(memory, rec, word, o, 0, most)
+}
+
+// From P on: instructions of one step each, as many as follow one another, or the one that goes by items.
+fn start(memory: &mut [u8], registers: &mut [u64], rec: Record, most: u32) -> Performed
+    requires { ⌜ (0 < most) × (lengthsRight (length (now memory)) (length (now registers)) ≡ true) × (rec .mark ≡ 0) ⌝ }
+    ensures { λ r. ⌜ Performs (at (length (now (memory .entry))) (num (now (memory .entry))) (now (registers .entry)) rec) most (length (now (memory .exit))) (num (now (memory .exit))) (now (registers .exit)) r ⌝ }
+{
+    let from = Pace {
+        p: rec.p,
+        flags: rec.flags,
+        left: most,
+    };
+    let s = stride(from, memory, registers);
+    if s.left < most {
+        return Performed::Did {
+            rec: Record::between(s.p, s.flags),
+            steps: most - s.left,
+        };
     }
+    begin(memory, &registers[..], rec, most)
 }
 
 // What is half done goes on with the word that it holds. Nothing is fetched, and nothing judged again.

@@ -4,6 +4,7 @@ ghost use lib.ListN.{length};
 ghost use Rattle.fields.specs.Bytes.{num};
 ghost use Rattle.instructions.specs.Fetch.{fetchOf, lengthOf};
 ghost use Rattle.instructions.specs.Verdict.{verdictOf};
+ghost use Rattle.instructions.specs.Instruction.{oneStep};
 use fields::units::BitAddress;
 use fields::units::ByteCount;
 use instructions::operands::Operands;
@@ -28,4 +29,11 @@ pub fn length_of(word: u64) -> u64
 {
     let bits = instructions::fetch::length_of(word);
     bits.0
+}
+
+// No check refuses it, and it does not go by items.
+pub fn one_step(p: u64, word: u64, o: Operands, bytes: u64) -> bool
+    ensures { λ r. ⌜ r ≡ oneStep p word o bytes ⌝ }
+{
+    instructions::verdict::one_step(BitAddress(p), word, o, ByteCount(bytes))
 }

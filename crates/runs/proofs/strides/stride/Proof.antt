@@ -1,0 +1,86 @@
+-- `runs::strides::stride` meets its contract. Assumes nothing.
+use mathlib.Core.Path.{_≡_, refl, sym, _∙_}
+use Prim.Native.Nat.{_-_, _≤_}
+use native.Mathlib.Omega.{arith}
+use lib.ListN.{length}
+use borrow.Author.Tests.{not-true, not-false}
+use Rattle.fields.specs.Bytes.{num}
+use Rattle.runs.proofs.Soundness.{lengths-of}
+use Rattle.runs.proofs.Striding.{one-step-passes, not-one-step, stride-on, no-stride}
+use Rattle.runs.specs.Steps.{next, strides}
+use Rattle.runs.specs.Inner.{strideAt}
+use Rattle.runs.proofs.strides.stride.Statement.{statement}
+use Rattle.runs.proofs.strides.stride.Tie as tie
+
+abbrev Inv-loop : tie.InvT-loop
+Inv-loop memory₀ registers₀ s₀ memory registers s =
+    (length memory ≡ length memory₀)
+    × ((length registers ≡ length registers₀)
+    × ((s .left ≤ s₀ .left)
+    × (strides (s₀ .left - s .left) (strideAt (length memory₀) (num memory₀) registers₀ s₀) ≡ next (strideAt (length memory) (num memory) registers s))))
+
+abbrev μ-loop : tie.MeasureT-loop
+μ-loop memory₀ registers₀ s₀ memory registers s = s .left
+
+loop-holds : tie.Need-loop-holds Inv-loop μ-loop
+loop-holds c = (refl, (refl, (omega arith, sym (no-stride _ _))))
+
+fetch-requires : tie.Need-fetch-requires Inv-loop μ-loop
+fetch-requires c κs = tt
+
+gather-requires : tie.Need-gather-requires Inv-loop μ-loop
+gather-requires c κs = c .before .before .before .before .before .loop .inv .1 .0 ∙ lengths-of _ _ (c .before .before .before .before .before .before .before .before .pre) .1
+
+one-step-requires : tie.Need-one-step-requires Inv-loop μ-loop
+one-step-requires c κs = tt
+
+same-length : tie.Need-same-length Inv-loop μ-loop
+same-length c = c .before .before .before .before .before .before .before .before .loop .inv .0
+
+same-length-2 : tie.Need-same-length-2 Inv-loop μ-loop
+same-length-2 c = c .before .before .before .before .before .before .before .before .loop .inv .1 .0
+
+returns : tie.Need-returns Inv-loop μ-loop
+returns c = record { as-long = c .before .before .before .before .before .before .before .before .loop .inv .0; few = c .before .before .before .before .before .before .before .before .loop .inv .1 .1 .0; steps = c .before .before .before .before .before .before .before .before .loop .inv .1 .1 .1; over = λ some. not-one-step (strideAt _ _ _ (c .before .before .before .before .before .before .before .before .loop .s)) _ _ _ (c .before .before .before .before .fetch .ensures) (c .before .before .gather .ensures) (c .before .one-step .ensures) (not-true _ (c .if2 .taken)) }
+
+act-requires : tie.Need-act-requires Inv-loop μ-loop
+act-requires c κs = let g = one-step-passes _ _ _ _ _ (c .before .before .before .one-step .ensures) (not-false _ (c .before .before .if2 .left)) in (g .0, g .1, c .before .before .before .before .before .before .before .before .before .before .loop .inv .1 .0 ∙ lengths-of _ _ (c .before .before .before .before .before .before .before .before .before .before .before .before .before .pre) .1)
+
+sub-t20 : tie.Need-sub-t20 Inv-loop μ-loop
+sub-t20 c = omega (arith, c .before .before .before .before .before .before .before .before .before .before .before .before .before .before .if1 .taken)
+
+loop-less : tie.Need-loop-less Inv-loop μ-loop
+loop-less c = omega (arith, c .before .before .before .before .before .before .before .before .before .before .before .before .before .before .if1 .taken)
+
+loop-again : tie.Need-loop-again Inv-loop μ-loop
+loop-again c = (c .before .before .before .before .before .act .ensures .0 ∙ c .before .before .before .before .before .before .before .before .before .before .before .before .before .before .before .before .loop .inv .0, (c .before .before .before .before .before .act .kept .1 .0 ∙ c .before .before .before .before .before .before .before .before .before .before .before .before .before .before .before .before .loop .inv .1 .0, (omega (arith, c .before .before .before .before .before .before .before .before .before .before .before .before .before .before .before .before .loop .inv .1 .1 .0), stride-on _ _ _ _ _ _ _ (c .before .before .before .before .before .before .before .before .before .before .before .before .before .before .before .before .loop .inv .1 .1 .0) (c .before .before .before .before .before .before .before .before .before .before .before .before .before .before .if1 .taken) (c .before .before .before .before .before .before .before .before .before .before .before .before .before .before .before .before .loop .inv .1 .1 .1) refl (c .before .before .before .before .before .before .before .before .before .before .before .before .fetch .ensures) (c .before .before .before .before .before .before .before .before .before .before .gather .ensures) (c .before .before .before .before .before .before .before .before .before .one-step .ensures) (not-false _ (c .before .before .before .before .before .before .before .before .if2 .left)) _ _ _ _ _ (c .before .before .before .before .before .act .ensures .0) (c .before .before .before .before .before .act .ensures .1))))
+
+same-length-3 : tie.Need-same-length-3 Inv-loop μ-loop
+same-length-3 c = c .before .before .loop .inv .0
+
+same-length-4 : tie.Need-same-length-4 Inv-loop μ-loop
+same-length-4 c = c .before .before .loop .inv .1 .0
+
+returns-2 : tie.Need-returns-2 Inv-loop μ-loop
+returns-2 c = record { as-long = c .before .before .loop .inv .0; few = c .before .before .loop .inv .1 .1 .0; steps = c .before .before .loop .inv .1 .1 .1; over = λ some. absurd (omega (arith, some, c .if1 .left)) }
+
+pub stride-spec : {M : Type 1} → statement M
+stride-spec =
+    tie.close
+    (tie.spec
+    Inv-loop
+    μ-loop
+    loop-holds
+    fetch-requires
+    gather-requires
+    one-step-requires
+    same-length
+    same-length-2
+    returns
+    act-requires
+    sub-t20
+    loop-less
+    loop-again
+    same-length-3
+    same-length-4
+    returns-2)
