@@ -82,7 +82,7 @@ pub left-half : (m : List ℕ) (p x : ℕ) → x ≡ fieldAt m p 32 → x * 2 ^ 
 left-half m p x e = let l : fieldAt m p 32 < 2 ^ 32 = field-lt (size m) (p - origin) 32 (num m) in rw e (mod-eq-of-lt (omega arith))
 
 -- with a word its first half
-first-half : (p n : ℕ) → there p 2 n ≡ true → there p 1 n ≡ true
+pub first-half : (p n : ℕ) → there p 2 n ≡ true → there p 1 n ≡ true
 first-half p n e = let t = there-ends p 2 n (omega arith) (omega arith) e in there-from p 1 n (omega arith) (omega arith) (omega arith) (omega arith) (omega arith)
 
 -- ---- 4: one place is enough to ask for

@@ -3,7 +3,7 @@
 use mathlib.Core.Path.{_≡_, refl, sym, ap, ap₂, _∙_}
 use mathlib.Core.Bool.{Bool, true, false, cond, not, _&&_, _||_}
 use mathlib.Core.Logic.{_⊎_, inl, inr}
-use Prim.Native.Nat.{ℕ, zero, suc, _%_, _≤_}
+use Prim.Native.Nat.{ℕ, zero, suc, _*_, _/_, _%_, _^_, _≤_}
 use native.Mathlib.Omega.{arith}
 use lib.Dec.{eqb, leb}
 use borrow.Author.Tests.{le-leb}
@@ -15,17 +15,18 @@ use Rattle.instructions.specs.declared.table.Row.{Row}
 use Rattle.instructions.specs.declared.table.Found.{Found}
 use Rattle.instructions.specs.declared.words.Refusal.{Refusal}
 use Rattle.instructions.specs.declared.words.Decoded.{Decoded}
-use Rattle.instructions.specs.Table.{formatOf, kindOf, exit, compress, long}
+use Rattle.instructions.specs.Table.{formatOf, kindOf, exit, compress, long, found}
 use Rattle.instructions.specs.Operands.{rowSays}
 use Rattle.instructions.specs.Words.{numberOf, decoded}
-use Rattle.instructions.specs.Fetch.{longIn, unfetchedAt}
+use Rattle.instructions.specs.Fetch.{longIn, there, wordAt, fetchOf, unfetchedAt}
 use Rattle.instructions.specs.Branches.{takenOf, targetOf}
 use Rattle.instructions.specs.Layout.{noFields, itemAt, loadAt, storeAt, branchOf, ofKind}
 use Rattle.instructions.specs.Verdict.{misaligned, outside, overlapping, verdictOf}
-use Rattle.instructions.specs.Inner.{refusalOf, listedOf, reachedBy, arrives, oneStepOf}
+use Rattle.instructions.specs.Inner.{refusalOf, listedOf, reachedBy, arrives, oneStepOf, cutOff}
 use Rattle.instructions.specs.Instruction.{byItems, oneStep}
 use Rattle.instructions.proofs.WordsOrder.{listed-passes}
-use Rattle.instructions.proofs.VerdictJudged.{refusal-is, refused-not-there, refused-word, listed-not-there, listed-word}
+use Rattle.instructions.proofs.VerdictJudged.{refusal-is, refused-not-there, refused-word, listed-word}
+use Rattle.instructions.proofs.FetchPlaces.{first-half, short-unfetched}
 
 -- ---- the refusal of few fields
 
@@ -148,6 +149,37 @@ few (suc (suc (suc (suc (suc (suc (suc k))))))) a b c d e f = inr (omega arith)
 
 -- ---- the word
 
+-- what is not in memory reads as zero, and no row has the code 00
+nothing-there : (n x p : ℕ) → there p 2 n ≡ false → there p 1 n ≡ false → 0 ≡ fetchOf n x p
+unfolding fetchOf wordAt
+nothing-there n x p e f = rw (e, f) (go (longIn 0))
+  where
+    go : (b : Bool) → 0 ≡ cond b 0 (0 / 2 ^ 32 * 2 ^ 32)
+    go true = refl
+    go false = refl
+
+zero-refused : decoded 0 ≡ Decoded.Refused Refusal.NotListed
+unfolding decoded found
+zero-refused = refl
+
+listed-there : (n x p w : ℕ) (r : Row) → w ≡ fetchOf n x p → decoded w ≡ Decoded.Listed r → there p 1 n ≡ true
+listed-there n x p w r read e = go (there p 2 n) (there p 1 n) refl refl
+  where
+    go : (a b : Bool) → there p 2 n ≡ a → there p 1 n ≡ b → there p 1 n ≡ true
+    go true b ea eb = first-half p n ea
+    go false true ea eb = eb
+    go false false ea eb =
+        let h : Decoded.Refused Refusal.NotListed ≡ Decoded.Listed r = sym zero-refused ∙ ap decoded (nothing-there n x p ea eb ∙ sym read) ∙ e in
+        let z : _≡_ {A = ℕ} 0 1 = cc in
+        absurd (omega arith)
+
+pub cut-unfetched : (n x p w : ℕ) (r : Row) → w ≡ fetchOf n x p → decoded w ≡ Decoded.Listed r → (l : Bool) → l ≡ longIn w → cutOff p l n ≡ unfetchedAt p (longIn w) n
+cut-unfetched n x p w r read e l is = go l ∙ ap (λ (b : Bool). unfetchedAt p b n) is
+  where
+    go : (b : Bool) → cutOff p b n ≡ unfetchedAt p b n
+    go true = refl
+    go false = sym (sym (short-unfetched p n) ∙ ap not (listed-there n x p w r read e))
+
 number-some : (why : Refusal) → eqb (numberOf why) 0 ≡ false
 number-some Refusal.NotListed = refl
 number-some Refusal.NotZero = refl
@@ -166,9 +198,16 @@ module _ (w : ℕ) (o : Operands) (n p : ℕ) where
         go true e = refused-step 4 (refused-not-there w o n p d is-decoded true e refl) refl
         go false e = refused-step (numberOf why) (refused-word w o n p d is-decoded false why (numberOf why) e refl h refl) (number-some why)
 
-    module _ (r : Row) (e : d ≡ Decoded.Listed r) (u l : Bool) (el : l ≡ long (formatOf r)) (eu : u ≡ unfetchedAt p l n) where
+    module _ (x : ℕ) (read : w ≡ fetchOf n x p) (r : Row) (e : d ≡ Decoded.Listed r) (u l : Bool) (el : l ≡ longIn w) (eu : u ≡ cutOff p l n) where
+      unfetched-is : u ≡ unfetchedAt p (longIn w) n
+      unfetched-is = eu ∙ cut-unfetched n x p w r read (sym is-decoded ∙ e) l el
+
+      its-length : longIn w ≡ long (formatOf r)
+      unfolding longIn
+      its-length = ap (λ (f : Found). rowSays false (λ r. long (formatOf r)) f) (listed-passes w r .0 (sym is-decoded ∙ e) .0)
+
       pub not-there-no-step : u ≡ true → false ≡ oneStep p w o n
-      not-there-no-step h = refused-step 4 (listed-not-there w o n p d is-decoded r e u l el eu h) refl
+      not-there-no-step h = refused-step 4 (refused-not-there w o n p d is-decoded u unfetched-is h) refl
 
       of-row : eqb (listedOf r w o n) 0 ≡ (not (eqb (kindOf r) exit) && eqb (refusalOf (ofKind (kindOf r) w o) n) 0)
       unfolding listedOf refusalOf
@@ -188,5 +227,5 @@ module _ (w : ℕ) (o : Operands) (n p : ℕ) where
           eb
           ∙ ap (λ (x : ℕ). oneStepOf x w o n) ek
           ∙ ap₂ (λ (x y : Bool). x && not y)
-          (sym of-row ∙ ap (λ (x : ℕ). eqb x 0) (listed-word w o n p d is-decoded r e u l (listedOf r w o n) el eu h refl))
+          (sym of-row ∙ ap (λ (x : ℕ). eqb x 0) (listed-word w o n p d is-decoded r e u (longIn w) (listedOf r w o n) its-length unfetched-is h refl))
           its-items

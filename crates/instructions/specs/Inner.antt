@@ -1,6 +1,6 @@
 -- What private functions promise: the cases of the look-up, and parts of the verdict. Assumes nothing.
 use mathlib.Core.Path.{_≡_}
-use mathlib.Core.Bool.{Bool, not, _&&_, _||_}
+use mathlib.Core.Bool.{Bool, true, not, _&&_, _||_}
 use mathlib.Core.List.{List, [], _∷_}
 use Prim.Native.Nat.{ℕ, _%_}
 use lib.Dec.{eqb, leb}
@@ -16,6 +16,7 @@ use Rattle.instructions.specs.Table.{codeOf, kindOf, rows, find, found, 
 use Rattle.instructions.specs.Operands.{rowSays}
 use Rattle.instructions.specs.Branches.{takenOf, targetOf}
 use Rattle.instructions.specs.Layout.{ofKind}
+use Rattle.instructions.specs.Fetch.{unfetchedAt}
 use Rattle.instructions.specs.Verdict.{checks, first}
 
 -- N, and no x has the code k
@@ -51,3 +52,7 @@ arrives w o = not (takenOf w o) || eqb (targetOf o .0 % 32) 0
 -- a listed word of this kind is not refused by 1 and 8 to 11, and does not go by items
 unfoldable pub oneStepOf : ℕ → ℕ → Operands → ℕ → Bool
 oneStepOf kind w o n = (not (eqb kind exit) && eqb (refusalOf (ofKind kind w o) n) 0) && not (leb compress kind)
+
+-- 4 for the right half of a long word
+abbrev pub cutOff : ℕ → Bool → ℕ → Bool
+cutOff p isLong n = isLong && unfetchedAt p true n

@@ -6,9 +6,12 @@ ghost use lib.ListN.{length};
 ghost use Rattle.fields.specs.Bytes.{num};
 ghost use Rattle.fields.specs.Memory.{rightLength};
 ghost use Rattle.instructions.specs.Items.{worked};
+ghost use Rattle.instructions.specs.Fetch.{lengthOf};
 ghost use Rattle.instructions.specs.Verdict.{verdictOf};
+ghost use Rattle.instructions.specs.Effects.{nextP};
 ghost use Rattle.instructions.specs.Instruction.{byItems, countOf, worksOf, done, actsOf};
 use crate::effects;
+use crate::effects::Next;
 use crate::fetch::length_of;
 use crate::items;
 use crate::items::Rule;
@@ -81,6 +84,16 @@ pub fn work(
     }
 }
 
+// The next P. How long the word is matters only where control goes on.
+fn next_p(next: Next, p: BitAddress, word: u64) -> BitAddress
+    ensures { λ r. ⌜ r .0 ≡ nextP (p .0) (lengthOf word) next ⌝ }
+{
+    match next {
+        Next::Following => next.address(p, length_of(word)),
+        Next::Target(target) => target,
+    }
+}
+
 // The next P, and the flags.
 pub struct Acted {
     pub p: u64,
@@ -103,7 +116,7 @@ pub fn act(
     let effect = u.effect;
     let next = u.next;
     effects::apply(effect, memory, registers);
-    let to = next.address(BitAddress(p), length_of(word));
+    let to = next_p(next, BitAddress(p), word);
     Acted {
         p: to.0,
         flags: flags | u.flags,

@@ -1,7 +1,10 @@
 // What refuses an instruction: the first of 01's numbers 4 to 11 and 1 that applies.
 ghost use mathlib.Core.Path.{_≡_};
+ghost use lib.ListN.{length};
+ghost use Rattle.fields.specs.Bytes.{num};
+ghost use Rattle.instructions.specs.Fetch.{fetchOf};
 ghost use Rattle.instructions.specs.Verdict.{misaligned, outside, clash, overlapping, verdictOf};
-ghost use Rattle.instructions.specs.Inner.{refusalOf, listedOf, reachedBy, arrives, oneStepOf};
+ghost use Rattle.instructions.specs.Inner.{refusalOf, listedOf, reachedBy, arrives, oneStepOf, cutOff};
 ghost use Rattle.instructions.specs.Instruction.{oneStep};
 use crate::branches::taken;
 use crate::branches::target;
@@ -141,15 +144,27 @@ fn one_step_of(kind: u8, word: u64, o: Operands, lent: ByteCount) -> bool
     }
 }
 
-// No check refuses the word, and it does not go by items.
-pub fn one_step(p: BitAddress, word: u64, o: Operands, lent: ByteCount) -> bool
-    ensures { λ r. ⌜ r ≡ oneStep (p .0) word o (lent .0) ⌝ }
+// Of a listed word that was fetched at P the first half is there: 4 is for the right half of a long one.
+fn cut_off(p: BitAddress, long: bool, lent: ByteCount) -> bool
+    ensures { λ r. ⌜ r ≡ cutOff (p .0) long (lent .0) ⌝ }
 {
+    if long {
+        return unfetched(p, true, lent);
+    }
+    false
+}
+
+// No check refuses the word that was fetched at P, and it does not go by items.
+pub fn one_step(memory: &[u8], p: BitAddress, word: u64, o: Operands) -> bool
+    requires { ⌜ word ≡ fetchOf (length (now memory)) (num (now memory)) (p .0) ⌝ }
+    ensures { λ r. ⌜ r ≡ oneStep (p .0) word o (length (now (memory .entry))) ⌝ }
+{
+    let lent = ByteCount(memory.len() as u64);
     let decoded = decode(word);
     match decoded {
         Decoded::Refused(_) => false,
         Decoded::Listed(row) => {
-            if unfetched(p, row.long(), lent) {
+            if cut_off(p, is_long(word), lent) {
                 return false;
             }
             one_step_of(row.kind(), word, o, lent)

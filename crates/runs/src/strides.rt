@@ -26,7 +26,7 @@ pub fn stride(start: Pace, memory: &mut [u8], registers: &mut [u64]) -> Pace
     while 0 < s.left {
         let word = fetch(&memory[..], s.p);
         let o = gather(word, &registers[..]);
-        if !one_step(s.p, word, o, memory.len() as u64) {
+        if !one_step(&memory[..], s.p, word, o) {
             return s;
         }
         let d = act(memory, registers, s.p, word, o, s.flags);

@@ -31,9 +31,10 @@ pub fn length_of(word: u64) -> u64
     bits.0
 }
 
-// No check refuses it, and it does not go by items.
-pub fn one_step(p: u64, word: u64, o: Operands, bytes: u64) -> bool
-    ensures { λ r. ⌜ r ≡ oneStep p word o bytes ⌝ }
+// No check refuses the word that was fetched, and it does not go by items.
+pub fn one_step(memory: &[u8], p: u64, word: u64, o: Operands) -> bool
+    requires { ⌜ word ≡ fetchOf (length (now memory)) (num (now memory)) p ⌝ }
+    ensures { λ r. ⌜ r ≡ oneStep p word o (length (now (memory .entry))) ⌝ }
 {
-    instructions::verdict::one_step(BitAddress(p), word, o, ByteCount(bytes))
+    instructions::verdict::one_step(memory, BitAddress(p), word, o)
 }

@@ -1,4 +1,5 @@
 -- `instructions::instruction::act` meets its contract. Assumes nothing.
+use mathlib.Core.Path.{refl}
 use borrow.Author.Needs.{needs}
 use Rattle.instructions.proofs.Readied.{reached}
 use Rattle.instructions.proofs.Stepped.{apply-asks, act-did}
@@ -11,11 +12,8 @@ scalar-requires c κs = reached _ (c .before .before .before .args .p) (c .befor
 apply-requires : tie.Need-apply-requires
 apply-requires c κs = (c .before .before .before .before .before .before .pre .2, apply-asks _ (c .before .before .before .before .before .before .args .word) (c .before .before .before .before .before .before .args .o) (c .before .before .scalar .result) (c .before .before .scalar .ensures) (reached _ (c .before .before .before .before .before .before .args .p) (c .before .before .before .before .before .before .args .word) (c .before .before .before .before .before .before .args .o) (c .before .before .before .before .before .before .pre .0)))
 
-length-of-requires : tie.Need-length-of-requires
-length-of-requires c κs = search needs
-
-address-requires : tie.Need-address-requires
-address-requires c κs = search needs
+next-p-requires : tie.Need-next-p-requires
+next-p-requires c κs = search needs
 
 same-length : tie.Need-same-length
 same-length c = search needs
@@ -24,16 +22,11 @@ same-length-2 : tie.Need-same-length-2
 same-length-2 c = search needs
 
 returns : tie.Need-returns
-returns c = act-did (c .before .before .before .before .before .before .before .before .before .before .before .before .before .before .args .p) (c .before .before .before .before .before .before .before .before .before .before .before .before .before .before .args .word) (c .before .before .before .before .before .before .before .before .before .before .before .before .before .before .args .o) _ _ (c .before .before .before .before .before .before .before .before .before .before .before .before .before .before .args .flags) _ _ (c .before .before .before .before .before .before .before .before .before .before .scalar .result) _ (c .before .before .length-of .result .0) (c .before .before .before .before .before .before .before .before .before .before .scalar .ensures) (c .before .before .before .before .before .before .before .apply .ensures) (c .before .before .length-of .ensures) (c .before .address .ensures)
+returns c =
+    let s = c .before .before .before .before .before .before .before .before .before .before .before .before .before in
+    act-did (s .args .p) (s .args .word) (s .args .o) _ _ (s .args .flags) _ _ (c .before .before .before .before .before .before .before .before .before .scalar .result) _ _ (c .before .before .before .before .before .before .before .before .before .scalar .ensures) (c .before .before .before .before .before .before .apply .ensures) refl (c .before .next-p .ensures)
 
 pub act-spec : {M : Type 1} → statement M
 act-spec =
     tie.close
-    (tie.spec
-    scalar-requires
-    apply-requires
-    length-of-requires
-    address-requires
-    same-length
-    same-length-2
-    returns)
+    (tie.spec scalar-requires apply-requires next-p-requires same-length same-length-2 returns)

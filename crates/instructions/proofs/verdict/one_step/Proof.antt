@@ -13,16 +13,16 @@ enum-told c = search needs
 enum-known-decoded : tie.Need-enum-known-decoded
 enum-known-decoded c = search needs
 
-long-requires : tie.Need-long-requires
-long-requires c κs = search needs
+is-long-requires : tie.Need-is-long-requires
+is-long-requires c κs = search needs
 
-unfetched-requires : tie.Need-unfetched-requires
-unfetched-requires c κs = search needs
+cut-off-requires : tie.Need-cut-off-requires
+cut-off-requires c κs = search needs
 
 returns : tie.Need-returns
 returns c =
-    let s = c .before .before .before .before .before .before .before in
-    not-there-no-step (s .args .word) (s .args .o) (s .args .lent .0) (s .args .p .0) (c .before .before .before .before .before .before .decode .result) (c .before .before .before .before .before .before .decode .ensures) _ (c .before .before .before .before .decoded .given .1) _ _ (c .before .before .long .ensures) (c .before .unfetched .ensures) (c .if1 .taken)
+    let s = c .before .before .before .before .before .before .before .before in
+    not-there-no-step (s .args .word) (s .args .o) _ (s .args .p .0) (c .before .before .before .before .before .before .decode .result) (c .before .before .before .before .before .before .decode .ensures) _ (s .pre) _ (c .before .before .before .before .decoded .given .1) _ _ (c .before .before .is-long .ensures) (c .before .cut-off .ensures) (c .if1 .taken)
 
 kind-requires : tie.Need-kind-requires
 kind-requires c κs = search needs
@@ -32,13 +32,13 @@ one-step-of-requires c κs = search needs
 
 returns-2 : tie.Need-returns-2
 returns-2 c =
-    let s = c .before .before .before in
-    refused-no-step (s .args .word) (s .args .o) (s .args .lent .0) (s .args .p .0) (c .before .before .decode .result) (c .before .before .decode .ensures) _ (c .enum-told .given .1)
+    let s = c .before .before .before .before in
+    refused-no-step (s .args .word) (s .args .o) _ (s .args .p .0) (c .before .before .decode .result) (c .before .before .decode .ensures) _ (c .enum-told .given .1)
 
 returns-3 : tie.Need-returns-3
 returns-3 c =
-    let s = c .before .before .before .before .before .before .before .before .before in
-    listed-step (s .args .word) (s .args .o) (s .args .lent .0) (s .args .p .0) (c .before .before .before .before .before .before .before .before .decode .result) (c .before .before .before .before .before .before .before .before .decode .ensures) _ (c .before .before .before .before .before .before .decoded .given .1) _ _ (c .before .before .before .before .long .ensures) (c .before .before .before .unfetched .ensures) _ _ (c .before .kind .ensures) (c .before .before .if1 .left) (c .one-step-of .ensures)
+    let s = c .before .before .before .before .before .before .before .before .before .before in
+    listed-step (s .args .word) (s .args .o) _ (s .args .p .0) (c .before .before .before .before .before .before .before .before .decode .result) (c .before .before .before .before .before .before .before .before .decode .ensures) _ (s .pre) _ (c .before .before .before .before .before .before .decoded .given .1) _ _ (c .before .before .before .before .is-long .ensures) (c .before .before .before .cut-off .ensures) _ _ (c .before .kind .ensures) (c .before .before .if1 .left) (c .one-step-of .ensures)
 
 pub one-step-spec : {M : Type 1} → statement M
 one-step-spec =
@@ -47,8 +47,8 @@ one-step-spec =
     decode-requires
     enum-told
     enum-known-decoded
-    long-requires
-    unfetched-requires
+    is-long-requires
+    cut-off-requires
     returns
     kind-requires
     one-step-of-requires

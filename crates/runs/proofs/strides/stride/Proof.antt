@@ -32,28 +32,28 @@ gather-requires : tie.Need-gather-requires Inv-loop μ-loop
 gather-requires c κs = c .before .before .before .before .before .loop .inv .1 .0 ∙ lengths-of _ _ (c .before .before .before .before .before .before .before .before .pre) .1
 
 one-step-requires : tie.Need-one-step-requires Inv-loop μ-loop
-one-step-requires c κs = tt
+one-step-requires c κs = c .before .before .before .fetch .ensures
 
 same-length : tie.Need-same-length Inv-loop μ-loop
-same-length c = c .before .before .before .before .before .before .before .before .loop .inv .0
+same-length c = c .before .before .before .before .before .before .before .before .before .loop .inv .0
 
 same-length-2 : tie.Need-same-length-2 Inv-loop μ-loop
-same-length-2 c = c .before .before .before .before .before .before .before .before .loop .inv .1 .0
+same-length-2 c = c .before .before .before .before .before .before .before .before .before .loop .inv .1 .0
 
 returns : tie.Need-returns Inv-loop μ-loop
-returns c = record { as-long = c .before .before .before .before .before .before .before .before .loop .inv .0; few = c .before .before .before .before .before .before .before .before .loop .inv .1 .1 .0; steps = c .before .before .before .before .before .before .before .before .loop .inv .1 .1 .1; over = λ some. not-one-step (strideAt _ _ _ (c .before .before .before .before .before .before .before .before .loop .s)) _ _ _ (c .before .before .before .before .fetch .ensures) (c .before .before .gather .ensures) (c .before .one-step .ensures) (not-true _ (c .if2 .taken)) }
+returns c = let i = c .before .before .before .before .before .before .before .before .before .loop .inv in record { as-long = i .0; few = i .1 .1 .0; steps = i .1 .1 .1; over = λ some. not-one-step (strideAt _ _ _ (c .before .before .before .before .before .before .before .before .before .loop .s)) _ _ _ (c .before .before .before .before .before .fetch .ensures) (c .before .before .before .gather .ensures) (c .before .one-step .ensures) (not-true _ (c .if2 .taken)) }
 
 act-requires : tie.Need-act-requires Inv-loop μ-loop
-act-requires c κs = let g = one-step-passes _ _ _ _ _ (c .before .before .before .one-step .ensures) (not-false _ (c .before .before .if2 .left)) in (g .0, g .1, c .before .before .before .before .before .before .before .before .before .before .loop .inv .1 .0 ∙ lengths-of _ _ (c .before .before .before .before .before .before .before .before .before .before .before .before .before .pre) .1)
+act-requires c κs = let g = one-step-passes _ _ _ _ _ (c .before .before .before .one-step .ensures) (not-false _ (c .before .before .if2 .left)) in (g .0, g .1, c .before .before .before .before .before .before .before .before .before .before .before .loop .inv .1 .0 ∙ lengths-of _ _ (c .before .before .before .before .before .before .before .before .before .before .before .before .before .before .pre) .1)
 
 sub-t20 : tie.Need-sub-t20 Inv-loop μ-loop
-sub-t20 c = omega (arith, c .before .before .before .before .before .before .before .before .before .before .before .before .before .before .if1 .taken)
+sub-t20 c = omega (arith, c .before .before .before .before .before .before .before .before .before .before .before .before .before .before .before .if1 .taken)
 
 loop-less : tie.Need-loop-less Inv-loop μ-loop
-loop-less c = omega (arith, c .before .before .before .before .before .before .before .before .before .before .before .before .before .before .if1 .taken)
+loop-less c = omega (arith, c .before .before .before .before .before .before .before .before .before .before .before .before .before .before .before .if1 .taken)
 
 loop-again : tie.Need-loop-again Inv-loop μ-loop
-loop-again c = (c .before .before .before .before .before .act .ensures .0 ∙ c .before .before .before .before .before .before .before .before .before .before .before .before .before .before .before .before .loop .inv .0, (c .before .before .before .before .before .act .kept .1 .0 ∙ c .before .before .before .before .before .before .before .before .before .before .before .before .before .before .before .before .loop .inv .1 .0, (omega (arith, c .before .before .before .before .before .before .before .before .before .before .before .before .before .before .before .before .loop .inv .1 .1 .0), stride-on _ _ _ _ _ _ _ (c .before .before .before .before .before .before .before .before .before .before .before .before .before .before .before .before .loop .inv .1 .1 .0) (c .before .before .before .before .before .before .before .before .before .before .before .before .before .before .if1 .taken) (c .before .before .before .before .before .before .before .before .before .before .before .before .before .before .before .before .loop .inv .1 .1 .1) refl (c .before .before .before .before .before .before .before .before .before .before .before .before .fetch .ensures) (c .before .before .before .before .before .before .before .before .before .before .gather .ensures) (c .before .before .before .before .before .before .before .before .before .one-step .ensures) (not-false _ (c .before .before .before .before .before .before .before .before .if2 .left)) _ _ _ _ _ (c .before .before .before .before .before .act .ensures .0) (c .before .before .before .before .before .act .ensures .1))))
+loop-again c = let i = c .before .before .before .before .before .before .before .before .before .before .before .before .before .before .before .before .before .loop .inv in (c .before .before .before .before .before .act .ensures .0 ∙ i .0, (c .before .before .before .before .before .act .kept .1 .0 ∙ i .1 .0, (omega (arith, i .1 .1 .0), stride-on _ _ _ _ _ _ _ (i .1 .1 .0) (c .before .before .before .before .before .before .before .before .before .before .before .before .before .before .before .if1 .taken) (i .1 .1 .1) refl (c .before .before .before .before .before .before .before .before .before .before .before .before .before .fetch .ensures) (c .before .before .before .before .before .before .before .before .before .before .before .gather .ensures) (c .before .before .before .before .before .before .before .before .before .one-step .ensures) (not-false _ (c .before .before .before .before .before .before .before .before .if2 .left)) _ _ _ _ _ (c .before .before .before .before .before .act .ensures .0) (c .before .before .before .before .before .act .ensures .1))))
 
 same-length-3 : tie.Need-same-length-3 Inv-loop μ-loop
 same-length-3 c = c .before .before .loop .inv .0
