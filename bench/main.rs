@@ -1,5 +1,5 @@
 //! The proved call and the peer in one process, turn about, on the same jobs: the medians' ratio for each, uncut and cut.
-//! Writes a table for a reader on standard output, and with a folder as its argument docs/SPEED's rows and picture there.
+//! Writes the table, the targets and a picture as SVG.
 use std::time::Instant;
 
 mod jobs;
@@ -67,7 +67,7 @@ fn measure(job: &Job, part: u32, rounds: usize) -> (f64, f64, u64) {
     (median(&mut ours), median(&mut theirs), steps)
 }
 
-fn main() {
+pub fn main() {
     let rounds = 31;
     let mut rows = Vec::new();
     for job in jobs::all() {
@@ -76,8 +76,5 @@ fn main() {
             rows.push(report::Row { name: job.name, kind: job.kind, cut, steps, ours, theirs });
         }
     }
-    print!("{}", report::text(&rows));
-    if let Some(folder) = std::env::args().nth(1) {
-        report::write(&rows, &folder).expect("the report cannot be written");
-    }
+    print!("{}{}", report::text(&rows), report::picture(&rows));
 }

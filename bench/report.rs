@@ -61,7 +61,7 @@ pub fn text(rows: &[Row]) -> String {
 }
 
 /// A bar for each workload and cut: the ratio to the peer.
-fn picture(rows: &[Row]) -> String {
+pub fn picture(rows: &[Row]) -> String {
     let scale = 120.0;
     let height = 40 + 15 * rows.len();
     let mut out = format!("<svg xmlns=\"http://www.w3.org/2000/svg\" viewBox=\"0 0 860 {height}\" font-family=\"sans-serif\" font-size=\"11\">\n");
@@ -82,10 +82,4 @@ fn picture(rows: &[Row]) -> String {
     let _ = writeln!(out, "<line x1=\"{x}\" y1=\"24\" x2=\"{x}\" y2=\"{}\" stroke=\"#a33\" stroke-dasharray=\"4 3\"/>", height - 10);
     out.push_str("</svg>\n");
     out
-}
-
-/// The table and the picture as files of a folder.
-pub fn write(rows: &[Row], folder: &str) -> std::io::Result<()> {
-    std::fs::write(format!("{folder}/speed.table.md"), text(rows))?;
-    std::fs::write(format!("{folder}/speed.svg"), picture(rows))
 }
