@@ -1,5 +1,5 @@
 //! The table and the picture.
-use crate::jobs::Kind;
+use super::jobs::Kind;
 use std::fmt::Write;
 
 pub struct Row {
@@ -17,8 +17,18 @@ impl Row {
     }
 }
 
+/// The number by which all of them divided multiply to one, found by halving: a logarithm would need a library that the cross link lacks.
 fn geometric_mean(ratios: &[f64]) -> f64 {
-    (ratios.iter().map(|r| r.ln()).sum::<f64>() / ratios.len() as f64).exp()
+    let (mut low, mut high) = (0.001, 1_000.0);
+    for _ in 0..60 {
+        let middle = (low + high) / 2.0;
+        if ratios.iter().map(|r| r / middle).product::<f64>() > 1.0 {
+            low = middle;
+        } else {
+            high = middle;
+        }
+    }
+    low
 }
 
 fn of<'a>(rows: &'a [Row], kind: Kind, cut: &'a str) -> impl Iterator<Item = &'a Row> {
