@@ -17,7 +17,9 @@ use Rattle.instructions.specs.declared.effects.Effect.the-variants.{Regi
 use Rattle.instructions.specs.declared.effects.Next.{Next}
 use Rattle.instructions.specs.declared.effects.Next.the-variants.{Following, Target}
 use Rattle.instructions.specs.Operands.{codeIn, gBit}
-use Rattle.instructions.specs.Branches.{compared, branchSum, takenOf, targetOf, branchOf}
+use Rattle.instructions.specs.Branches.{comparesBy, branchSum, takenOf, targetOf, branchOf}
+use Rattle.instructions.specs.Meanings.{plain}
+use Rattle.instructions.specs.Table.{meaningOf}
 use Rattle.instructions.specs.Scalars.{toRegister, loadByteOf, byteAt, loadWordOf, wordAt}
 
 -- the address n items after a, of a unit that is shifted left k
@@ -32,20 +34,20 @@ right-byte x = omega arith
 cleared : (v : ℕ) → store 64 56 8 v 0 ≡ v
 cleared v = omega arith
 
-pub loaded : (o : Operands) (m : List ℕ) {r : Outcome} {a : BitAddress} {t v : ℕ} → a ≡ byteAt o → v ≡ fieldAt m (a .0) 8 → r ≡ toRegister t v → r ≡ loadByteOf t o (length m) (num m)
-loaded o m {t = t} q h e = e ∙ ap (toRegister t) (h ∙ ap (λ (b : BitAddress). fieldAt m (b .0) 8) q ∙ sym (cleared (fieldAt m (byteAt o .0) 8)))
+pub loaded : (o : Operands) (m : List ℕ) {r : Outcome} {a : BitAddress} {t v : ℕ} → a ≡ byteAt o → v ≡ fieldAt m (a .0) 8 → r ≡ toRegister t (plain v) → r ≡ loadByteOf t o (length m) (num m)
+loaded o m {t = t} q h e = e ∙ ap (λ (x : ℕ). toRegister t (plain x)) (h ∙ ap (λ (b : BitAddress). fieldAt m (b .0) 8) q ∙ sym (cleared (fieldAt m (byteAt o .0) 8)))
 
-pub loaded-word : (o : Operands) (m : List ℕ) {r : Outcome} {a : BitAddress} {t v : ℕ} → a ≡ wordAt o → v ≡ fieldAt m (a .0) 64 → r ≡ toRegister t v → r ≡ loadWordOf t o (length m) (num m)
-loaded-word o m {t = t} q h e = e ∙ ap (toRegister t) (h ∙ ap (λ (b : BitAddress). fieldAt m (b .0) 64) q)
+pub loaded-word : (o : Operands) (m : List ℕ) {r : Outcome} {a : BitAddress} {t v : ℕ} → a ≡ wordAt o → v ≡ fieldAt m (a .0) 64 → r ≡ toRegister t (plain v) → r ≡ loadWordOf t o (length m) (num m)
+loaded-word o m {t = t} q h e = e ∙ ap (λ (x : ℕ). toRegister t (plain x)) (h ∙ ap (λ (b : BitAddress). fieldAt m (b .0) 64) q)
 
 -- a branch, taken or not
 module _ (w : ℕ) (o : Operands) where
-  pub taken-is : {k s : ℕ} {u r : Bool} → k ≡ codeIn w → u ≡ gBit 4 w → s ≡ branchSum o → r ≡ compared k u s (o .z) → r ≡ takenOf w o
+  pub taken-is : {k s : ℕ} {u r : Bool} → k ≡ codeIn w → u ≡ gBit 4 w → s ≡ branchSum o → r ≡ comparesBy (meaningOf k) u s (o .z) → r ≡ takenOf w o
   unfolding takenOf
   taken-is {k} {s} {u} ek eu es e =
       e
-      ∙ ap (λ (j : ℕ). compared j u s (o .z)) ek
-      ∙ ap₂ (λ (v : Bool) (n : ℕ). compared (codeIn w) v n (o .z)) eu es
+      ∙ ap (λ (j : ℕ). comparesBy (meaningOf j) u s (o .z)) ek
+      ∙ ap₂ (λ (v : Bool) (n : ℕ). comparesBy (meaningOf (codeIn w)) v n (o .z)) eu es
 
   pub branch-is : {n s : ℕ} {t : Bool} {a : BitAddress} → n ≡ field 64 56 8 w → s ≡ branchSum o → t ≡ takenOf w o → a ≡ targetOf o → record { effect = Register n s; flags = 0; next = cond t (Target a) Following } ≡ branchOf w o
   unfolding branchOf

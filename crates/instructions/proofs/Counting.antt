@@ -1,174 +1,163 @@
--- What a code says without the table: whether a word goes by items, how many it has, by the lengths, and what its plan is. Assumes nothing.
-use mathlib.Core.Path.{_≡_, refl, sym, ap, _∙_}
-use mathlib.Core.List.{List, [], _∷_}
-use mathlib.Core.Bool.{Bool, true, false, cond, _||_}
-use Prim.Native.Nat.{ℕ}
-use lib.Dec.{eqb, leb, T}
-use borrow.Author.Tests.{ne-eqb, eqb-true}
-use Rattle.fields.specs.Gathers.{compressItems, mergeItems}
+-- What a code says without the table: how many items a word has, by the lengths, and what its plan is.
+use mathlib.Core.Path.{_≡_, refl, sym, ap, subst, _∙_}
+use mathlib.Core.Bool.{Bool, true, false, not, _&&_, _||_}
+use Prim.Native.Nat.{ℕ, _/_, _%_, _^_, _<_}
+use native.Mathlib.Nat.{mod-eq-of-lt, mod-lt}
+use native.Mathlib.Omega.{arith}
+use lib.Bits.{bitAnd, and-shr, and-mod, and-mask}
+use lib.Dec.{T, eqb, eqb→eq}
+use lib.Pow.{pow-pos}
+use borrow.Author.Tests.{eq-eqb, ne-eqb, eqb-true, eqb-false, not-true}
+use Rattle.fields.specs.Field.{field}
 use Rattle.instructions.specs.declared.operands.Operands.{Operands}
-use Rattle.instructions.specs.declared.items.Rule.the-variants.{Compress, Merge, Mask}
-use Rattle.instructions.specs.declared.items.Plan as P
-use Rattle.instructions.specs.declared.table.Row.{Row}
+use Rattle.instructions.specs.declared.items.VectorPlan.{VectorPlan}
 use Rattle.instructions.specs.declared.table.Found.{Found}
-use Rattle.instructions.specs.declared.table.Found.the-variants.{At, Nothing}
-use Rattle.instructions.specs.Table.{compress, merge, mask, move, twoSources, codeOf, kindOf, lookUp, found}
-use Rattle.instructions.specs.Operands.{codeIn, rowSays}
-use Rattle.instructions.specs.Layout.{lengthIn, runsOf}
-use Rattle.instructions.specs.Plan.{itemsOf}
-use Rattle.instructions.specs.Planned.{bitsIn, moveIn, vectorIn, planAt}
+use Rattle.instructions.specs.Meanings.{gathers, eachOfAB, eachOfA, halfOfA, moves, Meaning, unlisted, exits, acts, branches, works, goesByItems}
+use Rattle.instructions.specs.Table.{Line, table, rowOf, namedOf, zeroBits, meaningOf}
+use Rattle.instructions.specs.Operands.{codeIn, foundIn, rowSays, meaningIn}
+use Rattle.instructions.specs.Words.{notZero, missing, missingAt}
+use Rattle.instructions.specs.Layout.{lengthIn}
+use Rattle.instructions.specs.Verdict.{checks, case, verdictOf}
+use Rattle.instructions.specs.Plan.{Plan, vectors, itemsOf}
+use Rattle.instructions.specs.Planned.{vectorIn, planIn}
 use Rattle.instructions.specs.Instruction.{byItems, planOf, countOf}
-use Rattle.instructions.specs.Inner.{Past, kindFor}
-use Rattle.instructions.proofs.TablePlaces.{past}
-use Rattle.instructions.proofs.TableRules.{every, row-passes, found-code}
+use Rattle.instructions.specs.Inner.{Past}
+use Rattle.instructions.specs.Loops.{lanesFor, makesBy, widthBy, singleBy, makesAt, widthAt, singleAt, Suited}
+use Rattle.instructions.proofs.Conjunctions.{and-first, and-rest}
+use Rattle.instructions.proofs.VerdictTests.{never, both-false}
+use Rattle.instructions.proofs.VerdictOrder.{Passes, end, next, verdict-none}
+use Rattle.instructions.proofs.TablePlaces.{every, meansIn, Looked, has, none, looked, those}
+use Rattle.instructions.proofs.ByCode.{not-of}
+use Rattle.instructions.proofs.TableRules.{ofTwo, ofOne, secondRule}
+use Rattle.instructions.proofs.Planned.{alone-lane}
 
--- the codes of what goes by items
-abbrev pub itemCodes : List ℕ
-itemCodes = 0x14 ∷ 0x15 ∷ 0x16 ∷ 0x83 ∷ 0x87 ∷ 0x8A ∷ 0x90 ∷ 0x91 ∷ 0x92 ∷ 0x96 ∷ 0x97 ∷ 0x98 ∷ 0xF8 ∷ []
+-- ---- bits, and bits or bytes, by their meaning
 
-abbrev among : ℕ → Bool
-among k = lookUp (λ (x : ℕ). x) (λ (x : ℕ). true) false k itemCodes
+abbrev pub ofBits : Meaning → Bool
+ofBits unlisted = false
+ofBits exits = false
+ofBits (acts a) = false
+ofBits (branches c) = false
+ofBits (works (gathers rule)) = true
+ofBits (works (eachOfAB f)) = false
+ofBits (works (eachOfA f)) = false
+ofBits (works (halfOfA f)) = false
+ofBits (works moves) = false
 
-abbrev itemRule : Row → Bool
-itemRule r = cond (leb compress (kindOf r)) (among (codeOf r)) true
+abbrev pub ofBitsOrBytes : Meaning → Bool
+ofBitsOrBytes unlisted = false
+ofBitsOrBytes exits = false
+ofBitsOrBytes (acts a) = false
+ofBitsOrBytes (branches c) = false
+ofBitsOrBytes (works (gathers rule)) = true
+ofBitsOrBytes (works (eachOfAB f)) = false
+ofBitsOrBytes (works (eachOfA f)) = false
+ofBitsOrBytes (works (halfOfA f)) = false
+ofBitsOrBytes (works moves) = true
 
-not-items : (kind : ℕ) (b : Bool) → T (cond (leb compress kind) b true) → b ≡ false → false ≡ leb compress kind
-not-items kind b t e = go (leb compress kind) (rw e at t)
-  where
-    go : (d : Bool) → T (cond d false true) → false ≡ d
-    go true t = absurd t
-    go false t = refl
+-- ---- how many
 
-found-other : (k : ℕ) (f : Found) → found k ≡ f → among k ≡ false → false ≡ rowSays false (λ r. leb compress (kindOf r)) f
-unfolding every
-found-other k Nothing e n = refl
-found-other k (At r) e n = not-items (kindOf r) (among (codeOf r)) (row-passes itemRule tt k r e) (ap among (found-code k r e) ∙ n)
-
-module _ (w : ℕ) {k : ℕ} (code : k ≡ codeIn w) where
-  pub goes-by-items : {j : ℕ} → k ≡ j → true ≡ rowSays false (λ r. leb compress (kindOf r)) (found j) → true ≡ byItems w
-  unfolding byItems
-  goes-by-items e h = h ∙ ap (λ (i : ℕ). rowSays false (λ r. leb compress (kindOf r)) (found i)) (sym e ∙ code)
-
-  pub goes-otherwise : Past (λ (x : ℕ). x) (Unit {0}) itemCodes k → false ≡ byItems w
-  unfolding byItems
-  goes-otherwise p =
-      found-other (codeIn w) (found (codeIn w)) refl
-      (ap among (sym code) ∙ past (λ (x : ℕ). x) (λ (x : ℕ). true) false k (Unit {0}) itemCodes [] p)
-
--- a kind that one code alone has
-abbrev alone : ℕ → ℕ → Row → Bool
-alone kind code r = cond (eqb (kindOf r) kind) (eqb (codeOf r) code) true
-
--- the items of a word that is not of them
-long-as : (kind w : ℕ) (o : Operands) → eqb kind compress ≡ false → eqb kind merge ≡ false → eqb kind mask ≡ false → itemsOf (planAt kind w o) ≡ lengthIn (o .c)
-unfolding planAt itemsOf
-long-as kind w o c m k = rw (c, m, k) (go (eqb kind move))
-  where
-    go : (b : Bool) → itemsOf (cond b (moveIn w o) (vectorIn kind w o)) ≡ lengthIn (o .c)
-    go true = refl
-    go false = refl
-
-passed : (b : Bool) → T b → b ≡ true
-passed true t = refl
-passed false t = absurd t
-
--- a row of a code that is none of the three is of no such kind
-not-it : (kind code j k : ℕ) → T (cond (eqb kind j) (eqb code k) true) → (code ≡ k → ⊥) → eqb kind j ≡ false
-not-it kind code j k t n = go (eqb kind j) t
-  where
-    go : (b : Bool) → T (cond b (eqb code k) true) → b ≡ false
-    go true t = absurd (n (eqb-true code k (passed (eqb code k) t)))
-    go false t = refl
-
-row-long : (k : ℕ) (r : Row) → found k ≡ At r → (k ≡ 0x14 → ⊥) → (k ≡ 0x15 → ⊥) → (k ≡ 0x16 → ⊥) → (w : ℕ) (o : Operands) → itemsOf (planAt (kindOf r) w o) ≡ lengthIn (o .c)
-unfolding every
-row-long k r e c m x w o =
-    let code = found-code k r e in
-    long-as (kindOf r) w o
-    (not-it (kindOf r) (codeOf r) compress 0x14 (row-passes (alone compress 0x14) tt k r e) (λ q. c (sym code ∙ q)))
-    (not-it (kindOf r) (codeOf r) merge 0x15 (row-passes (alone merge 0x15) tt k r e) (λ q. m (sym code ∙ q)))
-    (not-it (kindOf r) (codeOf r) mask 0x16 (row-passes (alone mask 0x16) tt k r e) (λ q. x (sym code ∙ q)))
-
-found-long : (k : ℕ) (f : Found) → found k ≡ f → (k ≡ 0x14 → ⊥) → (k ≡ 0x15 → ⊥) → (k ≡ 0x16 → ⊥) → (w : ℕ) (o : Operands)
-    → itemsOf (planAt (rowSays 0 kindOf f) w o) ≡ lengthIn (o .c)
-found-long k Nothing e c m x w o = long-as 0 w o refl refl refl
-found-long k (At r) e c m x w o = row-long k r e c m x w o
-
--- the plan of a word that is no bit instruction and no move
-vector-as : (kind w : ℕ) (o : Operands) → eqb kind compress ≡ false → eqb kind merge ≡ false → eqb kind mask ≡ false → eqb kind move ≡ false → planAt kind w o ≡ vectorIn kind w o
-unfolding planAt
-vector-as kind w o c m k v = rw (c, m, k, v)
-
-found-vector : (k : ℕ) (f : Found) → found k ≡ f → (k ≡ 0x14 → ⊥) → (k ≡ 0x15 → ⊥) → (k ≡ 0x16 → ⊥) → (k ≡ 0xF8 → ⊥) → (w : ℕ) (o : Operands)
-    → planAt (rowSays 0 kindOf f) w o ≡ vectorIn (rowSays 0 kindOf f) w o
-unfolding every
-found-vector k Nothing e c m x v w o = vector-as 0 w o refl refl refl refl
-found-vector k (At r) e c m x v w o =
-    let code = found-code k r e in
-    vector-as (kindOf r) w o
-    (not-it (kindOf r) (codeOf r) compress 0x14 (row-passes (alone compress 0x14) tt k r e) (λ q. c (sym code ∙ q)))
-    (not-it (kindOf r) (codeOf r) merge 0x15 (row-passes (alone merge 0x15) tt k r e) (λ q. m (sym code ∙ q)))
-    (not-it (kindOf r) (codeOf r) mask 0x16 (row-passes (alone mask 0x16) tt k r e) (λ q. x (sym code ∙ q)))
-    (not-it (kindOf r) (codeOf r) move 0xF8 (row-passes (alone move 0xF8) tt k r e) (λ q. v (sym code ∙ q)))
-
--- B is a source of 83, 87 and 8A alone
-abbrev pairRule : Row → Bool
-pairRule r = cond (eqb (kindOf r) twoSources) (eqb (codeOf r) 0x83 || (eqb (codeOf r) 0x87 || eqb (codeOf r) 0x8A)) true
-
-not-pair : (kind code : ℕ) → T (cond (eqb kind twoSources) (eqb code 0x83 || (eqb code 0x87 || eqb code 0x8A)) true) → (code ≡ 0x83 → ⊥) → (code ≡ 0x87 → ⊥) → (code ≡ 0x8A → ⊥)
-    → false ≡ eqb kind twoSources
-not-pair kind code t a b c = go (eqb kind twoSources) (rw (ne-eqb code 0x83 a, ne-eqb code 0x87 b, ne-eqb code 0x8A c) at t)
-  where
-    go : (d : Bool) → T (cond d false true) → false ≡ d
-    go true t = absurd t
-    go false t = refl
-
-found-single : (k : ℕ) (f : Found) → found k ≡ f → (k ≡ 0x83 → ⊥) → (k ≡ 0x87 → ⊥) → (k ≡ 0x8A → ⊥) → false ≡ eqb (rowSays 0 kindOf f) twoSources
-unfolding every
-found-single k Nothing e a b c = refl
-found-single k (At r) e a b c =
-    let code = found-code k r e in
-    not-pair (kindOf r) (codeOf r) (row-passes pairRule tt k r e) (λ q. a (sym code ∙ q)) (λ q. b (sym code ∙ q)) (λ q. c (sym code ∙ q))
-
-pub single-source : (k : ℕ) → (k ≡ 0x83 → ⊥) → (k ≡ 0x87 → ⊥) → (k ≡ 0x8A → ⊥) → false ≡ eqb (kindFor k) twoSources
-unfolding kindFor
-single-source k a b c = found-single k (found k) refl a b c
+by-length : (w : ℕ) (o : Operands) (m : Meaning) → ofBits m ≡ false → lengthIn (o .c) ≡ itemsOf (planIn m w o)
+unfolding planIn itemsOf
+by-length w o unlisted e = refl
+by-length w o exits e = refl
+by-length w o (acts a) e = refl
+by-length w o (branches c) e = refl
+by-length w o (works (gathers rule)) e = never e
+by-length w o (works (eachOfAB f)) e = refl
+by-length w o (works (eachOfA f)) e = refl
+by-length w o (works (halfOfA f)) e = refl
+by-length w o (works moves) e = refl
 
 module _ (w : ℕ) (o : Operands) {k n : ℕ} (code : k ≡ codeIn w) where
-  pub compress-counts : k ≡ 0x14 → n ≡ compressItems (runsOf o) → n ≡ countOf w o
-  unfolding planOf planAt itemsOf found
-  compress-counts e h = rw (sym code ∙ e) h
+  -- of a code that is known
+  pub counted-at : {j : ℕ} → k ≡ j → n ≡ itemsOf (planIn (meansIn j table) w o) → n ≡ countOf w o
+  unfolding planOf meaningOf
+  counted-at e h = h ∙ ap (λ (i : ℕ). itemsOf (planIn (meaningOf i) w o)) (sym e ∙ code)
 
-  pub merge-counts : k ≡ 0x15 → n ≡ mergeItems (runsOf o) → n ≡ countOf w o
-  unfolding planOf planAt itemsOf found
-  merge-counts e h = rw (sym code ∙ e) h
-
-  pub mask-counts : k ≡ 0x16 → n ≡ mergeItems (runsOf o) → n ≡ countOf w o
-  unfolding planOf planAt itemsOf found
-  mask-counts e h = rw (sym code ∙ e) h
-
-  pub length-counts : (k ≡ 0x14 → ⊥) → (k ≡ 0x15 → ⊥) → (k ≡ 0x16 → ⊥) → n ≡ lengthIn (o .c) → n ≡ countOf w o
+  pub length-counts : Past (λ (l : Line). l .code) (Unit {0}) (those (λ l. ofBits (l .means)) table) k → n ≡ lengthIn (o .c) → n ≡ countOf w o
   unfolding planOf
-  length-counts c m x h = h ∙ sym (found-long (codeIn w) (found (codeIn w)) refl (λ q. c (code ∙ q)) (λ q. m (code ∙ q)) (λ q. x (code ∙ q)) w o)
+  length-counts p h = h ∙ by-length w o (meaningOf k) (not-of ofBits refl k p) ∙ ap (λ (i : ℕ). itemsOf (planIn (meaningOf i) w o)) code
 
--- the plan that the code makes is the word's
-module _ (w : ℕ) (o : Operands) {k : ℕ} {plan : P.Plan} (code : k ≡ codeIn w) where
-  pub compress-plans : k ≡ 0x14 → plan ≡ bitsIn Compress o → plan ≡ planOf w o
-  unfolding planOf planAt found
-  compress-plans e h = rw (sym code ∙ e) h
+-- ---- which plan
 
-  pub merge-plans : k ≡ 0x15 → plan ≡ bitsIn Merge o → plan ≡ planOf w o
-  unfolding planOf planAt found
-  merge-plans e h = rw (sym code ∙ e) h
+-- of a code that is known
+pub planned-at : (w : ℕ) (o : Operands) {k : ℕ} (code : k ≡ codeIn w) {j : ℕ} {plan : Plan} → k ≡ j → plan ≡ planIn (meansIn j table) w o → plan ≡ planOf w o
+unfolding planOf meaningOf
+planned-at w o code e h = h ∙ ap (λ (i : ℕ). planIn (meaningOf i) w o) (sym e ∙ code)
 
-  pub mask-plans : k ≡ 0x16 → plan ≡ bitsIn Mask o → plan ≡ planOf w o
-  unfolding planOf planAt found
-  mask-plans e h = rw (sym code ∙ e) h
+-- ---- B is named where it is a source, and 00 where only A is: of a word that passes 6 and 7
 
-  pub move-plans : k ≡ 0xF8 → plan ≡ moveIn w o → plan ≡ planOf w o
-  unfolding planOf planAt found
-  move-plans e h = rw (sym code ∙ e) h
+-- the bits of a field of a conjunction
+field-and : (x y : ℕ) → field 64 40 8 (bitAnd x y) ≡ bitAnd (field 64 40 8 x) (field 64 40 8 y)
+field-and x y = ap (λ (n : ℕ). n % 2 ^ 8) (and-shr x y 16) ∙ and-mod (x / 2 ^ 16) (y / 2 ^ 16) 8
 
-  pub vector-plans : (k ≡ 0x14 → ⊥) → (k ≡ 0x15 → ⊥) → (k ≡ 0x16 → ⊥) → (k ≡ 0xF8 → ⊥) → plan ≡ vectorIn (kindFor (codeIn w)) w o → plan ≡ planOf w o
-  unfolding planOf kindFor
-  vector-plans c m x v h = h ∙ sym (found-vector (codeIn w) (found (codeIn w)) refl (λ q. c (code ∙ q)) (λ q. m (code ∙ q)) (λ q. x (code ∙ q)) (λ q. v (code ∙ q)) w o)
+low-byte : (x : ℕ) → field 64 40 8 x < 2 ^ 8
+low-byte x = mod-lt (x / 2 ^ 16) (pow-pos 8)
+
+not-not : (b : Bool) → not b ≡ false → b ≡ true
+not-not true h = refl
+not-not false h = never h
+
+sixth : (a b c d e f g h : Bool) → (a || b || c || d || e || f || g || h) ≡ false → f ≡ false
+sixth a b c d e f g h q = both-false (a || b || c || d || e) f (both-false (a || b || c || d || e || f) g (both-false (a || b || c || d || e || f || g) h q .0) .0) .1
+
+module _ (w : ℕ) (l : Line) where
+  zero-there : field 64 40 8 (zeroBits (rowOf l)) ≡ 0xFF → notZero (rowOf l) w ≡ false → field 64 40 8 w ≡ 0
+  unfolding notZero
+  zero-there e h =
+      let z : bitAnd w (zeroBits (rowOf l)) ≡ 0 = eqb-true _ 0 (not-not _ (both-false (not (eqb (bitAnd w (zeroBits (rowOf l))) 0)) _ h .0)) in
+      let f : bitAnd (field 64 40 8 w) 0xFF ≡ 0 = ap (bitAnd (field 64 40 8 w)) (sym e) ∙ sym (field-and w (zeroBits (rowOf l))) ∙ ap (field 64 40 8) z in
+      sym (and-mask (field 64 40 8 w) 8 ∙ mod-eq-of-lt (low-byte w)) ∙ f
+
+  named-there : field 64 40 8 (l .named) ≡ 0xFF → missing (l .named) w ≡ false → field 64 40 8 w ≡ 0 → ⊥
+  named-there e h z =
+      let t : missingAt (l .named) w 40 ≡ true = rw (e, z) in
+      let f : missingAt (l .named) w 40 ≡ false =
+      sixth (missingAt (l .named) w 0) (missingAt (l .named) w 8) (missingAt (l .named) w 16) (missingAt (l .named) w 24) (missingAt (l .named) w 32) (missingAt (l .named) w 40) (missingAt (l .named) w 48) (missingAt (l .named) w 56) h in
+      never (sym t ∙ f)
+
+-- the rule of B, of a word that passes 6 and 7
+abbrev Ruled : ℕ → Meaning → Type 0
+Ruled w m = (ofTwo m ≡ true → eqb (field 64 40 8 w) 0 ≡ false) × (ofOne m ≡ true → eqb (field 64 40 8 w) 0 ≡ true)
+
+told : (a b : Bool) → T (not a || b) → a ≡ true → T b
+told true b t e = t
+told false b t e = never (sym e)
+
+line-ruled : (w : ℕ) (l : Line) → T (secondRule l) → notZero (rowOf l) w ≡ false → missing (l .named) w ≡ false → Ruled w (l .means)
+line-ruled w l u z y =
+    let named : Bool = eqb (field 64 40 8 (l .named)) 0xFF in
+    let nought : Bool = eqb (field 64 40 8 (zeroBits (rowOf l))) 0xFF in (
+      (λ h. ne-eqb (field 64 40 8 w) 0 (named-there w l (eqb→eq (field 64 40 8 (l .named)) 0xFF (told (ofTwo (l .means)) named (and-first (not (ofTwo (l .means)) || named) (not (ofOne (l .means)) || nought) u) h)) y)),
+      (λ h. eq-eqb (field 64 40 8 w) 0 (zero-there w l (eqb→eq (field 64 40 8 (zeroBits (rowOf l))) 0xFF (told (ofOne (l .means)) nought (and-rest (not (ofTwo (l .means)) || named) (not (ofOne (l .means)) || nought) u) h)) z)),
+    )
+
+second-as : (p w : ℕ) (o : Operands) (n : ℕ) → verdictOf p w o n ≡ 0 → Ruled w (meaningIn w)
+unfolding every
+second-as p w o n passes = go (looked (codeIn w)) (verdict-none p w o n .0 passes)
+  where
+    go : Looked (codeIn w) → Passes (case p w o n) checks → Ruled w (meaningIn w)
+    go (none e m) q = rw m ((λ h. never (sym h)), (λ h. never (sym h)))
+    go (has l c t e m) (next _ (next _ (next z (next y _)))) = rw m (line-ruled w l (t secondRule tt) (rw e at z) (rw e at y))
+
+-- so the plan of a vector is known from its word alone
+vector-as : (w : ℕ) (o : Operands) {k : ℕ} (v : VectorPlan) → v ≡ vectorIn (eqb (field 64 40 8 w) 0) w o → (m : Meaning) → meaningOf k ≡ m → goesByItems m ≡ true → ofBitsOrBytes m ≡ false → Ruled w m
+    → (vectors v (widthAt k) (makesAt k) ≡ planIn m w o) × Suited k (lanesFor v)
+unfolding widthAt makesAt singleAt planIn
+vector-as w o v e unlisted em is nb ru = never (sym is)
+vector-as w o v e exits em is nb ru = never (sym is)
+vector-as w o v e (acts a) em is nb ru = never (sym is)
+vector-as w o v e (branches c) em is nb ru = never (sym is)
+vector-as w o v e (works (gathers rule)) em is nb ru = never nb
+vector-as w o v e (works moves) em is nb ru = never nb
+vector-as w o v e (works (eachOfAB f)) em is nb ru = (rw (em, e, ru .0 refl), record { some = rw em (omega arith); alone = λ h. never (sym (rw em at h)) })
+vector-as w o v e (works (eachOfA f)) em is nb ru = (rw (em, e, ru .1 refl), record { some = rw em (omega arith); alone = λ h. rw (e, ru .1 refl) (alone-lane w o) })
+vector-as w o v e (works (halfOfA f)) em is nb ru = (rw (em, e, ru .1 refl), record { some = rw em (omega arith); alone = λ h. rw (e, ru .1 refl) (alone-lane w o) })
+
+pub vector-plans : (p w : ℕ) (o : Operands) (n : ℕ) {k : ℕ} (v : VectorPlan) → k ≡ codeIn w → byItems w ≡ true → verdictOf p w o n ≡ 0
+    → Past (λ (l : Line). l .code) (Unit {0}) (those (λ l. ofBitsOrBytes (l .means)) table) k → v ≡ vectorIn (eqb (field 64 40 8 w) 0) w o
+    → (vectors v (widthAt k) (makesAt k) ≡ planOf w o) × Suited k (lanesFor v)
+unfolding byItems planOf
+vector-plans p w o n {k} v code is passes q e =
+    vector-as w o v e (meaningIn w) (ap meaningOf code) is (ap ofBitsOrBytes (ap meaningOf (sym code)) ∙ not-of ofBitsOrBytes refl k q) (second-as p w o n passes)

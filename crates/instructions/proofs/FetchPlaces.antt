@@ -20,7 +20,8 @@ use Rattle.instructions.specs.declared.table.Found.{Found}
 use Rattle.instructions.specs.Operands.{codeIn, foundIn, rowSays}
 use Rattle.instructions.specs.Table.{codeOf, formatOf, long, found}
 use Rattle.instructions.specs.Fetch.{longIn, placeOf, there, wordAt, fetchOf, unfetchedAt}
-use Rattle.instructions.proofs.TableRules.{every, row-passes, found-code}
+use Rattle.instructions.proofs.TablePlaces.{every}
+use Rattle.instructions.proofs.TableRules.{row-passes, found-code}
 use Rattle.instructions.proofs.VerdictTests.{both-true, both-false}
 
 -- what is asked of the row that a word's code was found to have

@@ -1,11 +1,12 @@
 -- A choice without a branch: a gate that is 1 or 0, and all ones or none of a word.
-use mathlib.Core.Path.{_≡_, refl, ap₂, _∙_}
+use mathlib.Core.Path.{_≡_, refl, ap, _∙_}
 use mathlib.Core.Logic.{_⊎_, inl, inr, ⊎-elim}
 use mathlib.Core.Bool.{cond}
-use Prim.Native.Nat.{ℕ, zero, suc, _-_, _*_, _^_, _≤_, _<_}
+use Prim.Native.Nat.{ℕ, zero, suc, _+_, _-_, _*_, _/_, _%_, _^_, _≤_, _<_}
 use native.Mathlib.Nat.{mod-eq-of-lt}
 use native.Mathlib.Omega.{arith}
-use lib.Bits.{bitOr, bitAnd, bitXor, or-zero-r, and-zero-r, and-mask}
+use lib.Arith.{bin-ind}
+use lib.Bits.{bitAnd, bitXor, differ, and-zero-r, and-mask, xor-zero-r, xor-step, xor-lt}
 use lib.Dec.{eqb}
 use Rattle.instructions.specs.Loops.{Gate}
 
@@ -38,10 +39,34 @@ sense-is s h = ⊎-elim (λ (e : s ≡ 0). rw e) (λ (e : s ≡ 1). rw e) (two s
 pub small : (g : ℕ) → g < 2 → g * 0xFFFF_FFFF_FFFF_FFFF ≤ 0xFFFF_FFFF_FFFF_FFFF
 small g h = ⊎-elim (λ (e : g ≡ 0). rw e (omega arith)) (λ (e : g ≡ 1). rw e (omega arith)) (two g h)
 
-pub chosen : (g new old : ℕ) → g < 2 → new < 2 ^ 64 → old < 2 ^ 64
-    → bitOr (bitAnd new (g * 0xFFFF_FFFF_FFFF_FFFF)) (bitAnd old (0xFFFF_FFFF_FFFF_FFFF - g * 0xFFFF_FFFF_FFFF_FFFF)) ≡ cond (eqb g 1) new old
+-- a number's bits, exchanged twice
+twice : (x y : ℕ) → x < 2 → y < 2 → differ x (differ x y) ≡ y
+twice zero y hx hy = refl
+twice (suc zero) zero hx hy = refl
+twice (suc zero) (suc zero) hx hy = refl
+twice (suc zero) (suc (suc y)) hx hy = absurd (omega arith)
+twice (suc (suc x)) y hx hy = absurd (omega arith)
+
+cancels : (a b : ℕ) → bitXor a (bitXor a b) ≡ b
+cancels =
+    bin-ind (λ (n : ℕ). (b : ℕ) → bitXor n (bitXor n b) ≡ b) (λ b. refl)
+    (λ n ih b.
+    let s : bitXor n b ≡ bitXor (n / 2) (b / 2) * 2 + differ (n % 2) (b % 2) = xor-step n b in
+    let d : differ (n % 2) (b % 2) < 2 = differ-lt (n % 2) (b % 2) (omega arith) (omega arith) in
+    let high : bitXor n b / 2 ≡ bitXor (n / 2) (b / 2) = omega arith in
+    let low : bitXor n b % 2 ≡ differ (n % 2) (b % 2) = omega arith in
+    let t : differ (n % 2) (differ (n % 2) (b % 2)) ≡ b % 2 = twice (n % 2) (b % 2) (omega arith) (omega arith) in
+    xor-step n (bitXor n b) ∙ rw (high, low, ih (b / 2), t) (omega arith))
+  where
+    differ-lt : (x y : ℕ) → x < 2 → y < 2 → differ x y < 2
+    differ-lt zero y hx hy = hy
+    differ-lt (suc zero) zero hx hy = omega arith
+    differ-lt (suc zero) (suc y) hx hy = omega arith
+    differ-lt (suc (suc x)) y hx hy = absurd (omega arith)
+
+pub chosen : (g new old : ℕ) → g < 2 → new < 2 ^ 64 → old < 2 ^ 64 → bitXor old (bitAnd (bitXor old new) (g * 0xFFFF_FFFF_FFFF_FFFF)) ≡ cond (eqb g 1) new old
 chosen g new old h hn ho =
     ⊎-elim
-    (λ (e : g ≡ 0). rw e (ap₂ bitOr (and-zero-r new) (and-mask old 64 ∙ mod-eq-of-lt ho)))
-    (λ (e : g ≡ 1). rw e (ap₂ bitOr (and-mask new 64 ∙ mod-eq-of-lt hn) (and-zero-r old) ∙ or-zero-r new))
+    (λ (e : g ≡ 0). rw e (ap (bitXor old) (and-zero-r (bitXor old new)) ∙ xor-zero-r old))
+    (λ (e : g ≡ 1). rw e (ap (bitXor old) (and-mask (bitXor old new) 64 ∙ mod-eq-of-lt (xor-lt 64 old new ho hn)) ∙ cancels old new))
     (two g h)

@@ -1,7 +1,9 @@
 -- The laws that belong to no one function, by module.
 pub mod Conjunctions
+pub mod VerdictTests
 pub mod TablePlaces
 pub mod TableRules
+pub mod ByCode
 pub mod WordsFilled
 pub mod WordsDecoding
 pub mod WordsRoundTrip
@@ -9,7 +11,6 @@ pub mod WordsOrder
 pub mod OperandsGathered
 pub mod LayoutMade
 pub mod FetchPlaces
-pub mod VerdictTests
 pub mod VerdictJudged
 pub mod VerdictSteps
 pub mod VerdictOrder
@@ -20,7 +21,6 @@ pub mod Outcomes
 pub mod AppliedOnce
 pub mod HalfRegisters
 pub mod Examples
-pub mod ByCode
 pub mod Held
 pub mod Addressed
 pub mod Agree

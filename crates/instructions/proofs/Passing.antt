@@ -16,10 +16,9 @@ use Rattle.instructions.specs.declared.items.Control.{Control}
 use Rattle.instructions.specs.declared.items.Control.the-variants.{Every, Where}
 use Rattle.instructions.specs.declared.items.SecondBits.{SecondBits}
 use Rattle.instructions.specs.declared.items.SecondBits.the-variants.{From, Zeros}
-use Rattle.instructions.specs.declared.items.Plan as P
-use Rattle.instructions.specs.declared.items.Plan.the-variants.{Vector, Bits, Move}
-use Rattle.instructions.specs.Items.{Place, bits, fixed, Made}
-use Rattle.instructions.specs.Plan.{sourceItem, controlBit, secondOf, widthOf, makesOf, vector, taken, secondBit, bitOf, byteOf, shape, itemsOf, takenBy, bitItems}
+use Rattle.instructions.specs.declared.items.Made.{Made}
+use Rattle.instructions.specs.Items.{Place, bits, fixed}
+use Rattle.instructions.specs.Plan.{sourceItem, controlBit, vector, taken, secondBit, bitOf, byteOf, takenBy, bitItems, Plan, vectors, bitRuns, byteMove, shape, itemsOf}
 use Rattle.instructions.specs.Accepted.{Away, SourcePasses, ControlPasses, SecondPasses, Accepted}
 use Rattle.instructions.proofs.Agree.{Clear, Sound}
 
@@ -85,13 +84,13 @@ byte-safe L c n a length fill i h k = go (ltb i length) refl
 
 -- ---- every plan
 
-pub sound : (L : ℕ) (p : P.Plan) → Accepted L p → Sound L (shape p) (itemsOf p)
+pub sound : (L : ℕ) (p : Plan) → Accepted L p → Sound L (shape p) (itemsOf p)
 unfolding shape itemsOf
-sound L (Vector v) h = vector-sound L (v .first) (secondOf (v .operation) (v .second)) (v .control) (v .result) (widthOf (v .operation)) (v .items) (makesOf (v .operation)) (h .upto) (h .first) (h .second) (h .control)
-sound L (Bits b) h =
+sound L (vectors v w f) h = vector-sound L (v .first) (v .second) (v .control) (v .result) w (v .items) f (h .upto) (h .first) (h .second) (h .control)
+sound L (bitRuns b) h =
     let N : ℕ = bitItems (b .rule) (b .runs) in
     taken-sound L (b .result) 1 N (λ j. bitOf (b .first) (b .second) (takenBy (b .rule) (b .runs) j)) (omega (arith, h .upto))
     (λ i l. let e : N * 1 ≡ N = omega arith in rw e (bit-safe L (b .result) N (b .first) (b .second) (takenBy (b .rule) (b .runs)) N i l (h .first) (h .second)))
-sound L (Move v) h =
+sound L (byteMove v) h =
     taken-sound L (v .result) 8 (v .items) (byteOf (v .source) (v .length) (v .fill)) (h .upto)
     (λ i l. byte-safe L (v .result) (v .items) (v .source) (v .length) (v .fill) i l (h .source))

@@ -7,9 +7,8 @@ use native.Mathlib.Omega.{arith}
 use Rattle.fields.specs.Field.{field}
 use Rattle.fields.specs.InTurn.{Same}
 use Rattle.fields.proofs.Places.{store-none}
-use Rattle.instructions.specs.declared.items.Plan as P
 use Rattle.instructions.specs.Items.{Shape, resultAt, itemAt, Worked, worked, turns, flagsTogether, whole}
-use Rattle.instructions.specs.Plan.{shape, itemsOf}
+use Rattle.instructions.specs.Plan.{Plan, shape, itemsOf}
 use Rattle.instructions.specs.Accepted.{Accepted}
 use Rattle.instructions.proofs.Agree.{agree, item-done, item-to-come, elsewhere, resume}
 use Rattle.instructions.proofs.Passing.{sound}
@@ -17,7 +16,7 @@ use Rattle.instructions.proofs.Passing.{sound}
 none-done : (s : Shape) (L : ℕ) (w : Worked) → turns s L 0 0 w ≡ whole s L 0 w
 none-done s L w = rw zero-mul (sym (ap (λ (x : ℕ). worked x (w .flags)) (store-none L (s .result) (w .memory))))
 
-module _ (L : ℕ) (p : P.Plan) (h : 0 < itemsOf p → Accepted L p) (w : Worked) where
+module _ (L : ℕ) (p : Plan) (h : 0 < itemsOf p → Accepted L p) (w : Worked) where
   -- item by item is the whole instruction, cut after k items
   pub plan-agrees : (k : ℕ) → k ≤ itemsOf p → turns (shape p) L 0 k w ≡ whole (shape p) L k w
   plan-agrees zero le = none-done (shape p) L w
@@ -41,5 +40,5 @@ module _ (L : ℕ) (p : P.Plan) (h : 0 < itemsOf p → Accepted L p) (w : Worked
   plan-flags k le = ap (λ (v : Worked). v .flags) (plan-agrees k le)
 
 -- a pause after j items, and k more
-pub plan-resumes : (L : ℕ) (p : P.Plan) (j k : ℕ) (w : Worked) → turns (shape p) L j k (turns (shape p) L 0 j w) ≡ turns (shape p) L 0 (j + k) w
+pub plan-resumes : (L : ℕ) (p : Plan) (j k : ℕ) (w : Worked) → turns (shape p) L j k (turns (shape p) L 0 j w) ≡ turns (shape p) L 0 (j + k) w
 plan-resumes L p j k w = let e : 0 + j ≡ j = omega arith in (rw e at (resume (shape p) L 0 j k w))

@@ -8,7 +8,7 @@ use mathlib.Core.List.{List}
 use Prim.Native.Nat.{ℕ, zero, suc, _+_, _-_, _*_, _/_, _%_, _^_, _≤_, _<_, min}
 use native.Mathlib.Nat.{mod-lt}
 use native.Mathlib.Omega.{arith}
-use lib.Dec.{T, eqb, leb, eqb→eq, leb→le, lit<, lit≤}
+use lib.Dec.{eqb, leb, lit<, lit≤}
 use lib.ListN.{length}
 use lib.Pow.{pow-pos}
 use borrow.Author.Tests.{eqb-true, leb-true}
@@ -29,29 +29,22 @@ use Rattle.fields.proofs.Furthest.{at-most}
 use Rattle.fields.proofs.GatherMeaning.{Lengths, extents-low, compress-few, merge-few}
 use Rattle.instructions.specs.declared.operands.Operands.{Operands}
 use Rattle.instructions.specs.declared.layout.Fields.{Fields}
-use Rattle.instructions.specs.declared.table.Row.{Row}
-use Rattle.instructions.specs.declared.table.Found.{Found}
-use Rattle.instructions.specs.declared.table.Found.the-variants.{At, Nothing}
 use Rattle.instructions.specs.declared.items.Source.{Source}
 use Rattle.instructions.specs.declared.items.Source.the-variants.{Field, Value}
 use Rattle.instructions.specs.declared.items.Control.the-variants.{Every, Where}
-use Rattle.instructions.specs.declared.items.Operation.{Operation}
-use Rattle.instructions.specs.declared.items.Operation.the-variants.{Add, Subtract, Shift, Truncate, Floor, Ceiling, Contract, RoundedContract, Transmit}
-use Rattle.instructions.specs.declared.items.Rule.the-variants.{Compress, Merge, Mask}
+use Rattle.instructions.specs.declared.items.Rule.{Rule}
 use Rattle.instructions.specs.declared.items.SecondBits.the-variants.{From, Zeros}
-use Rattle.instructions.specs.declared.items.Plan as P
-use Rattle.instructions.specs.Table as Tab
-use Rattle.instructions.specs.Table.{codeOf, kindOf, rows, found}
-use Rattle.instructions.specs.Operands.{codeIn, foundIn, rowSays, gBit}
-use Rattle.instructions.specs.Layout.{lengthIn, baseIn, indexed, noFields, itemAt, loadAt, storeAt, sourceOf, controlOf, resultOf, vectorOf, runsOf, zerosOf, compressOf, mergeOf, maskOf, moveOf, ofKind, fieldsOf}
+use Rattle.instructions.specs.Meanings.{toT, toHalfT, loadsByte, loadsWord, storesByte, storesWord, Work, gathers, eachOfAB, eachOfA, halfOfA, moves, Meaning, unlisted, exits, acts, branches, works, goesByItems, kindFor}
+use Rattle.instructions.specs.Operands.{meaningIn, gBit, R, S, T}
+use Rattle.instructions.specs.Layout.{lengthIn, baseIn, indexed, itemAt, loadAt, storeAt, sourceOf, controlOf, resultOf, vectorOf, runsOf, zerosOf, compressOf, mergeOf, maskOf, moveOf, ofKind, fieldsOf}
 use Rattle.instructions.specs.Verdict.{clash, verdictOf}
-use Rattle.instructions.specs.Plan.{widthOf, secondOf, takenBy, bitItems, itemsOf}
-use Rattle.instructions.specs.Planned.{placeOf, sourceIn, controlIn, operationOf, vectorIn, secondIn, bitsIn, moveIn, planAt}
-use Rattle.instructions.specs.Accepted.{Away, WordsPass, SourcePasses, ControlPasses, VectorPasses, SecondPasses, BitsPass, MovePasses, Accepted, Ready}
-use Rattle.instructions.specs.Scalars.{byteAt, wordAt, Reached}
+use Rattle.instructions.specs.Plan.{takenBy, bitItems, Plan, vectors, bitRuns, byteMove, itemsOf}
+use Rattle.instructions.specs.Planned.{placeOf, sourceIn, controlIn, vectorIn, secondIn, bitsIn, moveIn, planBy, planIn}
+use Rattle.instructions.specs.Accepted.{Away, WordsPass, SourcePasses, ControlPasses, VectorPasses, SecondPasses, BitsPass, MovePasses, Accepted, Ready, ReachedBy, Reached}
+use Rattle.instructions.specs.Scalars.{byteAt, wordAt}
 use Rattle.instructions.specs.Instruction.{byItems, planOf}
-use Rattle.instructions.proofs.TableRules.{every, row-passes, found-code}
 use Rattle.instructions.proofs.VerdictTests.{never, both-true}
+use Rattle.instructions.proofs.LayoutMade.{fields-mean}
 use Rattle.instructions.proofs.VerdictMeaning.{Placed, placed, clear, Passed, verdict-passed}
 
 -- a length has 16 bits, a base 48
@@ -121,18 +114,6 @@ module _ (u : U.Unit) (c k n : ℕ) (some : 0 < k) (few : k ≤ 65535) (in-memor
       go (inl (_, (e, _))) = absurd (omega arith)
       go (inr q) = let e : k * 1 ≡ k = omega arith in rw (has u (baseIn c) k few, has Bit (baseIn z) k few, e) at q
 
--- the second source of one with A alone is no field
-second-passes : (L c w k : ℕ) (op : Operation) (s : Source) → SourcePasses L c w k s → SourcePasses L c w k (secondOf op s)
-second-passes L c w k Add s p = p
-second-passes L c w k Subtract s p = p
-second-passes L c w k Shift s p = p
-second-passes L c w k Truncate s p = tt
-second-passes L c w k Floor s p = tt
-second-passes L c w k Ceiling s p = tt
-second-passes L c w k Contract s p = tt
-second-passes L c w k RoundedContract s p = tt
-second-passes L c w k Transmit s p = tt
-
 -- a multiple of a word or a half word is one of a byte
 whole-bytes : (u : U.Unit) (a : ℕ) → E.widthOf u ≡ 64 ⊎ E.widthOf u ≡ 32 → a % E.widthOf u ≡ 0 → a % 8 ≡ 0
 whole-bytes Bit a (inl e) w = absurd (omega arith)
@@ -142,20 +123,20 @@ whole-bytes HalfWord a e w = omega arith
 whole-bytes Word a e w = omega arith
 
 -- 83, 87, 8A, 90 to 92, 96 to 98
-vector-accepted : (kind w : ℕ) (o : Operands) (n : ℕ) (u : U.Unit) (one : Bool) → one ≡ not (eqb kind Tab.twoSources) → widthOf (operationOf (codeIn w)) ≡ E.widthOf u
-    → E.widthOf u ≡ 64 ⊎ E.widthOf u ≡ 32 → Passed (vectorOf w o (resultOf u o) one) n → 0 < lengthIn (o .c) → Accepted (8 * n) (vectorIn kind w o)
+vector-accepted : (w : ℕ) (o : Operands) (n : ℕ) (u : U.Unit) (alone : Bool) → E.widthOf u ≡ 64 ⊎ E.widthOf u ≡ 32 → Passed (vectorOf w o (resultOf u o) alone) n → 0 < lengthIn (o .c)
+    → VectorPasses (8 * n) (E.widthOf u) (vectorIn alone w o)
 unfolding vectorOf sourceOf controlOf
-vector-accepted kind w o n u one e1 ew ws p some =
+vector-accepted w o n u alone ws p some =
     let few = length-few (o .c) in
     let r = placed (resultOf u o) n (some-bits u (baseIn (o .c)) (lengthIn (o .c)) some few) (p .result-aligned) (p .result-inside) in
     let h = has u (baseIn (o .c)) (lengthIn (o .c)) few in
     let l = r .upto in
     record {
       whole = whole-bytes u (placeOf (low48 (o .c))) ws (r .whole);
-      upto = rw ew (omega arith);
-      first = rw ew (source-passes u (o .c) (lengthIn (o .c)) n some few (p .result-inside) (gBit 3 w) (o .a) (p .first-aligned) (p .first-inside) (p .first-clear));
-      second = rw (ew, ← e1) (second-passes _ _ _ _ (operationOf (codeIn w)) _ (source-passes u (o .c) (lengthIn (o .c)) n some few (p .result-inside) (one || gBit 4 w) (o .b) (p .second-aligned) (p .second-inside) (p .second-clear)));
-      control = rw ew (control-passes u (o .c) (lengthIn (o .c)) n some few (p .result-inside) (eqb (field 64 48 8 w) 0) (o .z) (not (gBit 1 w)) (p .control-inside) (p .control-clear));
+      upto = omega arith;
+      first = source-passes u (o .c) (lengthIn (o .c)) n some few (p .result-inside) (gBit 3 w) (o .a) (p .first-aligned) (p .first-inside) (p .first-clear);
+      second = source-passes u (o .c) (lengthIn (o .c)) n some few (p .result-inside) (alone || gBit 4 w) (o .b) (p .second-aligned) (p .second-inside) (p .second-clear);
+      control = control-passes u (o .c) (lengthIn (o .c)) n some few (p .result-inside) (eqb (field 64 48 8 w) 0) (o .z) (not (gBit 1 w)) (p .control-inside) (p .control-clear);
     }
 
 -- ---- bit fields: a result of k bits at c
@@ -203,7 +184,7 @@ compress-s : (t : Runs) (n : ℕ) → furthest (λ j. pastS (compress t j)) n �
 compress-s t n = let l = at-most (λ j. pastS (compress t j)) n 0 (λ j h. omega arith) in omega arith
 
 -- 14, 15 and 16: the extents of the layout are the plan's
-compress-accepted : (o : Operands) (n : ℕ) → Passed (compressOf o) n → 0 < compressItems (runsOf o) → Accepted (8 * n) (bitsIn Compress o)
+compress-accepted : (o : Operands) (n : ℕ) → Passed (compressOf o) n → 0 < compressItems (runsOf o) → BitsPass (8 * n) (bitsIn Rule.Compress o)
 compress-accepted o n p some =
     let t = runsOf o in
     let few : compressItems t ≤ 65535 = let a = length-few (o .a) in let b = compress-few t in omega arith in
@@ -224,7 +205,7 @@ compress-accepted o n p some =
         let e = compress-s (runsOf o) (compressItems (runsOf o)) in
         (omega arith, λ there. absurd (omega arith))
 
-merge-accepted : (o : Operands) (n : ℕ) → Passed (mergeOf o) n → 0 < mergeItems (runsOf o) → Accepted (8 * n) (bitsIn Merge o)
+merge-accepted : (o : Operands) (n : ℕ) → Passed (mergeOf o) n → 0 < mergeItems (runsOf o) → BitsPass (8 * n) (bitsIn Rule.Merge o)
 unfolding zerosOf
 merge-accepted o n p some =
     let t = runsOf o in
@@ -240,7 +221,7 @@ merge-accepted o n p some =
       second = second-away (o .a) (mergeItems t) n some few (p .result-inside) (o .x) _ (omega arith) (eqb (low48 (o .x)) 0) (p .second-inside) (p .second-clear);
     }
 
-mask-accepted : (o : Operands) (n : ℕ) → Passed (maskOf o) n → 0 < mergeItems (runsOf o) → Accepted (8 * n) (bitsIn Mask o)
+mask-accepted : (o : Operands) (n : ℕ) → Passed (maskOf o) n → 0 < mergeItems (runsOf o) → BitsPass (8 * n) (bitsIn Rule.Mask o)
 unfolding zerosOf
 mask-accepted o n p some =
     let t = runsOf o in
@@ -257,7 +238,7 @@ mask-accepted o n p some =
     }
 
 -- F8
-move-accepted : (w : ℕ) (o : Operands) (n : ℕ) → Passed (moveOf o) n → 0 < lengthIn (o .c) → Accepted (8 * n) (moveIn w o)
+move-accepted : (w : ℕ) (o : Operands) (n : ℕ) → Passed (moveOf o) n → 0 < lengthIn (o .c) → MovePasses (8 * n) (moveIn w o)
 move-accepted w o n p some =
     let a = indexed Byte (o .a) (o .x) in
     let c = indexed Byte (o .c) (o .z) in
@@ -299,71 +280,33 @@ move-accepted w o n p some =
             let fewer : min (lengthIn (o .a)) (lengthIn (o .c)) ≤ 65535 = omega arith in
             rw (has Byte (indexed Byte (o .c) (o .z)) (lengthIn (o .c)) few, has Byte (indexed Byte (o .a) (o .x)) (min (lengthIn (o .a)) (lengthIn (o .c))) fewer) at q
 
--- ---- by the table
+-- ---- by the meaning
 
--- the kinds end with the move, and the half words are those of 96 and 97: tests of a row, computed over the whole table
-last-kind : Row → Bool
-last-kind r = leb (kindOf r) 13
+by-work : (k : Work) (w : ℕ) (o : Operands) (n : ℕ) → Passed (ofKind (kindFor (works k)) w o) n → 0 < itemsOf (planBy k w o) → Accepted (8 * n) (planBy k w o)
+unfolding ofKind itemsOf
+by-work (gathers Rule.Compress) w o n p some = compress-accepted o n p some
+by-work (gathers Rule.Merge) w o n p some = merge-accepted o n p some
+by-work (gathers Rule.Mask) w o n p some = mask-accepted o n p some
+by-work (eachOfAB f) w o n p some = vector-accepted w o n Word false (inl refl) p some
+by-work (eachOfA f) w o n p some = vector-accepted w o n Word true (inl refl) p some
+by-work (halfOfA f) w o n p some = vector-accepted w o n HalfWord true (inr refl) p some
+by-work moves w o n p some = move-accepted w o n p some
 
-wide-as : Row → Bool
-wide-as r = eqb (widthOf (operationOf (codeOf r))) (cond (eqb (kindOf r) Tab.halfResult) 32 64)
-
-kinds-end : T (every last-kind rows)
-unfolding every last-kind
-kinds-end = tt
-
-widths-are : T (every wide-as rows)
-unfolding every wide-as operationOf
-widths-are = tt
-
--- each kind that has items, from compress to move
-by-kind : (i w : ℕ) (o : Operands) (n : ℕ) → i ≤ 6 → widthOf (operationOf (codeIn w)) ≡ cond (eqb (7 + i) Tab.halfResult) 32 64
-    → Passed (ofKind (7 + i) w o) n → 0 < itemsOf (planAt (7 + i) w o) → Accepted (8 * n) (planAt (7 + i) w o)
-unfolding ofKind planAt itemsOf
-by-kind zero w o n l ew p some = compress-accepted o n p some
-by-kind (suc zero) w o n l ew p some = merge-accepted o n p some
-by-kind (suc (suc zero)) w o n l ew p some = mask-accepted o n p some
-by-kind (suc (suc (suc zero))) w o n l ew p some = vector-accepted Tab.twoSources w o n Word false refl ew (inl refl) p some
-by-kind (suc (suc (suc (suc zero)))) w o n l ew p some = vector-accepted Tab.oneSource w o n Word true refl ew (inl refl) p some
-by-kind (suc (suc (suc (suc (suc zero))))) w o n l ew p some = vector-accepted Tab.halfResult w o n HalfWord true refl ew (inr refl) p some
-by-kind (suc (suc (suc (suc (suc (suc zero)))))) w o n l ew p some = move-accepted w o n p some
-by-kind (suc (suc (suc (suc (suc (suc (suc i))))))) w o n l ew p some = absurd (omega arith)
-
-module _ (w : ℕ) (r : Row) (e : foundIn w ≡ At r) where
-  kind-low : kindOf r ≤ 13
-  unfolding last-kind
-  kind-low = leb→le (kindOf r) 13 (row-passes last-kind kinds-end (codeIn w) r e)
-
-  width-is : widthOf (operationOf (codeIn w)) ≡ cond (eqb (kindOf r) Tab.halfResult) 32 64
-  unfolding wide-as
-  width-is = ap (λ (k : ℕ). widthOf (operationOf k)) (sym (found-code (codeIn w) r e)) ∙ eqb→eq _ _ (row-passes wide-as widths-are (codeIn w) r e)
-
-  fields-by-kind : (o : Operands) → fieldsOf w o ≡ ofKind (kindOf r) w o
-  unfolding fieldsOf
-  fields-by-kind o = ap (rowSays _ (λ (r : Row). ofKind (kindOf r) w o)) e
-
-  plan-by-kind : (o : Operands) → planOf w o ≡ planAt (kindOf r) w o
-  unfolding planOf
-  plan-by-kind o = ap (λ (f : Found). planAt (rowSays 0 kindOf f) w o) e
-
-  accepted-by-kind : (o : Operands) (n : ℕ) → Tab.compress ≤ kindOf r → Passed (fieldsOf w o) n → 0 < itemsOf (planOf w o) → Accepted (8 * n) (planOf w o)
-  accepted-by-kind o n from p some =
-      let low = kind-low in
-      let k : kindOf r ≡ 7 + (kindOf r - 7) = omega arith in
-      let ew : widthOf (operationOf (codeIn w)) ≡ cond (eqb (7 + (kindOf r - 7)) Tab.halfResult) 32 64 = width-is ∙ ap (λ (j : ℕ). cond (eqb j Tab.halfResult) 32 64) k in
-      let q : Passed (ofKind (kindOf r) w o) n = subst (λ (f : Fields). Passed f n) (fields-by-kind o) p in
-      let go : Passed (ofKind (kindOf r) w o) n → 0 < itemsOf (planAt (kindOf r) w o) → Accepted (8 * n) (planAt (kindOf r) w o) =
-      subst (λ (j : ℕ). Passed (ofKind j w o) n → 0 < itemsOf (planAt j w o) → Accepted (8 * n) (planAt j w o)) (sym k) (by-kind (kindOf r - 7) w o n (omega arith) ew) in
-      subst (λ (x : P.Plan). Accepted (8 * n) x) (sym (plan-by-kind o)) (go q (subst (λ (x : P.Plan). 0 < itemsOf x) (plan-by-kind o) some))
+-- what a word that no check refuses passes, by what its function means
+meant-passes : (p w : ℕ) (o : Operands) (n : ℕ) → verdictOf p w o n ≡ 0 → Passed (ofKind (kindFor (meaningIn w)) w o) n
+meant-passes p w o n passes = subst (λ (f : Fields). Passed f n) (fields-mean w o) (verdict-passed p w o n passes)
 
 -- a vector, bit or move instruction that no check refuses is accepted
 pub accepted : (p w : ℕ) (o : Operands) (n : ℕ) → byItems w ≡ true → verdictOf p w o n ≡ 0 → 0 < itemsOf (planOf w o) → Accepted (8 * n) (planOf w o)
-unfolding byItems
-accepted p w o n is passes some = go (foundIn w) refl is
+unfolding byItems planOf planIn
+accepted p w o n is passes some = go (meaningIn w) is (meant-passes p w o n passes) some
   where
-    go : (f : Found) → foundIn w ≡ f → rowSays false (λ (r : Row). leb Tab.compress (kindOf r)) f ≡ true → Accepted (8 * n) (planOf w o)
-    go Nothing e h = never (sym h)
-    go (At r) e h = accepted-by-kind w r e o n (leb-true _ _ h) (verdict-passed p w o n passes) some
+    go : (m : Meaning) → goesByItems m ≡ true → Passed (ofKind (kindFor m) w o) n → 0 < itemsOf (planIn m w o) → Accepted (8 * n) (planIn m w o)
+    go unlisted is q some = never (sym is)
+    go exits is q some = never (sym is)
+    go (acts a) is q some = never (sym is)
+    go (branches c) is q some = never (sym is)
+    go (works k) is q some = by-work k w o n q some
 
 -- .. and may be worked
 pub ready : (m : List ℕ) (p w : ℕ) (o : Operands) → rightLength (length m) ≡ true → byItems w ≡ true → verdictOf p w o (length m) ≡ 0 → Ready m (planOf w o)
@@ -393,20 +336,19 @@ word-there m a al i =
     let w = p .whole in
     record { from = f; upto = omega arith; whole = omega arith }
 
--- the fields of a word whose code is known
-pub fields-at : (w : ℕ) (o : Operands) (k : ℕ) → codeIn w ≡ k → fieldsOf w o ≡ rowSays noFields (λ (r : Row). ofKind (kindOf r) w o) (found k)
-unfolding fieldsOf
-fields-at w o k e = ap (λ (j : ℕ). rowSays noFields (λ (r : Row). ofKind (kindOf r) w o) (found j)) e
-
 -- the address of a load or a store that no check refuses lies in memory
 pub reached : (m : List ℕ) (p w : ℕ) (o : Operands) → verdictOf p w o (length m) ≡ 0 → Reached w o m
-unfolding found ofKind
-reached m p w o passes = record {
-  load-byte = λ e. let q : Passed (loadAt (itemAt Byte o)) (length m) = at 0x12 e in byte-there m (byteAt o) (q .first-aligned) (q .first-inside);
-  store-byte = λ e. let q : Passed (storeAt (itemAt Byte o)) (length m) = at 0x13 e in byte-there m (byteAt o) (q .result-aligned) (q .result-inside);
-  load-word = λ e. let q : Passed (loadAt (itemAt Word o)) (length m) = at 0x7E e in word-there m (wordAt o) (q .first-aligned) (q .first-inside);
-  store-word = λ e. let q : Passed (storeAt (itemAt Word o)) (length m) = at 0x7F e in word-there m (wordAt o) (q .result-aligned) (q .result-inside);
-}
+unfolding Reached ofKind
+reached m p w o passes = go (meaningIn w) (meant-passes p w o (length m) passes)
   where
-    at : (k : ℕ) → codeIn w ≡ k → Passed (rowSays noFields (λ (r : Row). ofKind (kindOf r) w o) (found k)) (length m)
-    at k e = subst (λ (f : Fields). Passed f (length m)) (fields-at w o k e) (verdict-passed p w o (length m) passes)
+    go : (k : Meaning) → Passed (ofKind (kindFor k) w o) (length m) → ReachedBy k o m
+    go unlisted q = tt
+    go exits q = tt
+    go (acts (toT f)) q = tt
+    go (acts (toHalfT f)) q = tt
+    go (acts loadsByte) q = byte-there m (byteAt o) (q .first-aligned) (q .first-inside)
+    go (acts loadsWord) q = word-there m (wordAt o) (q .first-aligned) (q .first-inside)
+    go (acts storesByte) q = byte-there m (byteAt o) (q .result-aligned) (q .result-inside)
+    go (acts storesWord) q = word-there m (wordAt o) (q .result-aligned) (q .result-inside)
+    go (branches c) q = tt
+    go (works k) q = tt

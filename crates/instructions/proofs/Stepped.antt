@@ -10,24 +10,34 @@ use Rattle.fields.specs.Bytes.{num}
 use Rattle.fields.specs.Memory.{rightLength}
 use Rattle.instructions.specs.declared.operands.Operands.{Operands}
 use Rattle.instructions.specs.declared.effects.Outcome.{Outcome}
-use Rattle.instructions.specs.declared.items.Plan as P
 use Rattle.instructions.specs.Verdict.{verdictOf}
 use Rattle.instructions.specs.Fetch.{lengthOf}
 use Rattle.instructions.specs.Effects.{Reaches, Applied, nextP}
-use Rattle.instructions.specs.Scalars.{scalarOf, Reached}
+use Rattle.instructions.specs.Scalars.{scalarOf}
 use Rattle.instructions.specs.Items.{worked, Turned}
-use Rattle.instructions.specs.Plan.{shape, itemsOf}
-use Rattle.instructions.specs.Accepted.{Ready}
+use Rattle.instructions.specs.Plan.{Plan, vectors, shape, itemsOf}
+use Rattle.instructions.specs.Loops.{lanesFor, widthAt, makesAt, Suited}
+use Rattle.instructions.specs.declared.items.VectorPlan.{VectorPlan}
+use Rattle.instructions.specs.Accepted.{Ready, Reached}
 use Rattle.instructions.specs.Instruction.{byItems, planOf, countOf, worksOf, done, actsOf}
 use Rattle.instructions.proofs.Outcomes.{reached-reaches}
 use Rattle.instructions.proofs.Readied.{ready}
 
-pub work-asks : (m : List ℕ) (p w : ℕ) (o : Operands) (plan : P.Plan) (from count : ℕ) → plan ≡ planOf w o
+pub work-asks : (m : List ℕ) (p w : ℕ) (o : Operands) (plan : Plan) (from count : ℕ) → plan ≡ planOf w o
     → rightLength (length m) ≡ true → verdictOf p w o (length m) ≡ 0 → byItems w ≡ true → from + count ≤ countOf w o → (count ≡ 0 → ⊥)
     → Ready m plan × (from + count ≤ itemsOf plan) × (0 < count)
 work-asks m p w o plan from count e right passes is l some = rw e (ready m p w o right is passes, l, omega arith)
 
-pub work-did : (w : ℕ) (o : Operands) (plan : P.Plan) (from count : ℕ) (m : List ℕ) (f : ℕ) (m' : List ℕ) (f' : ℕ) → plan ≡ planOf w o → Turned (shape plan) from count m f m' f'
+-- a vector's, whose code says what is made
+pub vector-asks : (m : List ℕ) (p w : ℕ) (o : Operands) (v : VectorPlan) (k from count : ℕ) → vectors v (widthAt k) (makesAt k) ≡ planOf w o → Suited k (lanesFor v)
+    → rightLength (length m) ≡ true → verdictOf p w o (length m) ≡ 0 → byItems w ≡ true → from + count ≤ countOf w o → (count ≡ 0 → ⊥)
+    → Ready m (vectors v (widthAt k) (makesAt k)) × (from + count ≤ v .items) × (0 < count) × Suited k (lanesFor v)
+unfolding itemsOf
+vector-asks m p w o v k from count e suited right passes is l some =
+    let q = work-asks m p w o (vectors v (widthAt k) (makesAt k)) from count e right passes is l some in
+    (q .0, q .1, q .2, suited)
+
+pub work-did : (w : ℕ) (o : Operands) (plan : Plan) (from count : ℕ) (m : List ℕ) (f : ℕ) (m' : List ℕ) (f' : ℕ) → plan ≡ planOf w o → Turned (shape plan) from count m f m' f'
     → (length m' ≡ length m) × (worked (num m') f' ≡ worksOf w o (length m) from count (worked (num m) f))
 unfolding worksOf
 work-did w o plan from count m f m' f' e t = (t .as-long, rw (← e) (t .does))

@@ -12,37 +12,34 @@ use lib.ListN.{length}
 use lib.Pow.{pow-pos}
 use borrow.Author.Tests.{leb-true, not-false}
 use Rattle.fields.specs.Memory.{rightLength, origin}
-use Rattle.numbers.specs.declared.division.Rounding.the-variants.{Zero, Down, Up}
-use Rattle.numbers.proofs.Raised.{Among, either, whole-flags, contract-flags}
+use Rattle.numbers.proofs.Raised.{Among, either}
 use Rattle.instructions.specs.declared.operands.Operands.{Operands}
 use Rattle.instructions.specs.declared.layout.Fields.{Fields}
 use Rattle.instructions.specs.declared.effects.Outcome.{Outcome}
 use Rattle.instructions.specs.declared.effects.Next.{Next}
 use Rattle.instructions.specs.declared.effects.Next.the-variants.{Following, Target}
-use Rattle.instructions.specs.declared.items.Operation.{Operation}
-use Rattle.instructions.specs.declared.items.Operation.the-variants.{Add, Subtract, Shift, Truncate, Floor, Ceiling, Contract, RoundedContract, Transmit}
-use Rattle.instructions.specs.declared.items.Plan as P
-use Rattle.instructions.specs.declared.items.Plan.the-variants.{Vector, Bits, Move}
-use Rattle.instructions.specs.Table.{found}
-use Rattle.instructions.specs.Operands.{codeIn}
+use Rattle.instructions.specs.Meanings.{toT, toHalfT, loadsByte, loadsWord, storesByte, storesWord, gathers, eachOfAB, eachOfA, halfOfA, moves, Meaning, unlisted, exits, acts, branches, works, kindFor}
+use Rattle.instructions.specs.Operands.{codeIn, meaningIn}
 use Rattle.instructions.specs.Fetch.{longIn, lengthOf, there, unfetchedAt}
 use Rattle.instructions.specs.Branches.{takenOf, targetOf, branchOf}
 use Rattle.instructions.specs.Layout as Layout
 use Rattle.instructions.specs.Layout.{ofKind, fieldsOf}
 use Rattle.instructions.specs.Verdict.{Case, Check, checks, case, first, verdictOf}
 use Rattle.instructions.specs.Effects.{nextP}
-use Rattle.instructions.specs.Scalars.{cases, scalarOf}
+use Rattle.instructions.specs.Scalars.{outcomeIn, scalarOf}
 use Rattle.instructions.specs.Items.{Shape, storedAt, madeAt, flagsAt, Worked, turns, whole}
-use Rattle.instructions.specs.Plan.{makesOf, shape}
+use Rattle.instructions.specs.Plan.{shape}
+use Rattle.instructions.specs.Planned.{planIn}
 use Rattle.instructions.specs.Instruction.{byItems, planOf, countOf, worksOf, wholeOf, actsOf}
 use Rattle.instructions.proofs.FetchPlaces.{there-ends, long-unfetched, short-unfetched}
 use Rattle.instructions.proofs.VerdictOrder.{Passes, end, next, verdict-none}
 use Rattle.instructions.proofs.VerdictMeaning.{Passed, verdict-passed}
 use Rattle.instructions.proofs.VerdictTests.{both-true}
 use Rattle.instructions.proofs.AppliedOnce.{registers-as-long}
-use Rattle.instructions.proofs.Outcomes.{every, scalar-flags}
+use Rattle.instructions.proofs.Outcomes.{Raises, raises, scalar-flags}
 use Rattle.instructions.proofs.Promised.{plan-agrees}
-use Rattle.instructions.proofs.Readied.{accepted, fields-at}
+use Rattle.instructions.proofs.Readied.{accepted}
+use Rattle.instructions.proofs.LayoutMade.{fields-mean}
 use Rattle.instructions.proofs.Unions.{or-among}
 
 -- ---- items
@@ -63,34 +60,30 @@ unfolding worksOf wholeOf
 works-whole p word o bytes lent passes is k le w = plan-agrees (8 * bytes) (planOf word o) (accepted p word o bytes is passes) w k le
 
 -- items raise no flags but the three
-makes-among : (op : Operation) (x y : ℕ) → Among (makesOf op x y .flags)
-makes-among Add x y = refl
-makes-among Subtract x y = refl
-makes-among Shift x y = refl
-makes-among Truncate x y = whole-flags 15 47 Zero x
-makes-among Floor x y = whole-flags 15 47 Down x
-makes-among Ceiling x y = whole-flags 15 47 Up x
-makes-among Contract x y = contract-flags false x
-makes-among RoundedContract x y = contract-flags true x
-makes-among Transmit x y = refl
+plan-among : (m : Meaning) (w : ℕ) (o : Operands) → Raises m → (x y : ℕ) → Among (shape (planIn m w o) .makes x y .flags)
+unfolding shape planIn
+plan-among unlisted w o r x y = refl
+plan-among exits w o r x y = refl
+plan-among (acts a) w o r x y = refl
+plan-among (branches c) w o r x y = refl
+plan-among (works (gathers rule)) w o r x y = refl
+plan-among (works (eachOfAB f)) w o r x y = r x y
+plan-among (works (eachOfA f)) w o r x y = r x
+plan-among (works (halfOfA f)) w o r x y = r x
+plan-among (works moves) w o r x y = refl
 
-plan-among : (p : P.Plan) (x y : ℕ) → Among (shape p .makes x y .flags)
-unfolding shape
-plan-among (Vector v) x y = makes-among (v .operation) x y
-plan-among (Bits b) x y = refl
-plan-among (Move v) x y = refl
+module _ (s : Shape) (raised : (x y : ℕ) → Among (s .makes x y .flags)) where
+  item-among : (L i x : ℕ) → Among (flagsAt s L i x)
+  unfolding flagsAt madeAt
+  item-among L i x = either Among (storedAt s L i x) (raised _ _) refl
 
-item-among : (p : P.Plan) (L i x : ℕ) → Among (flagsAt (shape p) L i x)
-unfolding flagsAt madeAt
-item-among p L i x = either Among (storedAt (shape p) L i x) (plan-among p _ _) refl
-
-turns-among : (p : P.Plan) (L from k : ℕ) (w : Worked) → Among (w .flags) → Among (turns (shape p) L from k w .flags)
-turns-among p L from zero w h = h
-turns-among p L from (suc k) w h = or-among (turns (shape p) L from k w .flags) _ (turns-among p L from k w h) (item-among p L (from + k) (turns (shape p) L from k w .memory))
+  turns-among : (L from k : ℕ) (w : Worked) → Among (w .flags) → Among (turns s L from k w .flags)
+  turns-among L from zero w h = h
+  turns-among L from (suc k) w h = or-among (turns s L from k w .flags) _ (turns-among L from k w h) (item-among L (from + k) (turns s L from k w .memory))
 
 pub works-flags : (word : ℕ) (o : Operands) (bytes from count : ℕ) (w : Worked) → Among (w .flags) → Among (worksOf word o bytes from count w .flags)
-unfolding worksOf
-works-flags word o bytes from count w h = turns-among (planOf word o) (8 * bytes) from count w h
+unfolding worksOf planOf
+works-flags word o bytes from count w h = turns-among (shape (planOf word o)) (plan-among (meaningIn word) word o (raises (codeIn word))) (8 * bytes) from count w h
 
 -- ---- the verdict
 
@@ -150,11 +143,20 @@ branch-goes w o f = go (takenOf w o) refl
     go false e = inl refl
 
 scalar-goes : (w : ℕ) (o : Operands) (bytes x : ℕ) → Goes w o (scalarOf w o bytes x)
-unfolding scalarOf found ofKind
-scalar-goes w o bytes x =
-    every (Goes w o) (codeIn w) (cases w o bytes x)
-    ((λ e. inl refl), ((λ e. inl refl), ((λ e. inl refl), ((λ e. inl refl), ((λ e. inl refl), ((λ e. inl refl), ((λ e. inl refl), ((λ e. inl refl), ((λ e. inl refl), ((λ e. inl refl), ((λ e. inl refl), ((λ e. inl refl), ((λ e. inl refl), ((λ e. inl refl), ((λ e. inl refl), ((λ e. inl refl), ((λ e. inl refl), ((λ e. inl refl), ((λ e. branch-goes w o (fields-at w o 0xB0 e)), ((λ e. branch-goes w o (fields-at w o 0xB1 e)), ((λ e. branch-goes w o (fields-at w o 0xB2 e)), ((λ e. branch-goes w o (fields-at w o 0xB3 e)), ((λ e. branch-goes w o (fields-at w o 0xB4 e)), ((λ e. branch-goes w o (fields-at w o 0xB5 e)), tt))))))))))))))))))))))))
-    (inl refl)
+unfolding scalarOf ofKind
+scalar-goes w o bytes x = go (meaningIn w) (fields-mean w o)
+  where
+    go : (m : Meaning) → fieldsOf w o ≡ ofKind (kindFor m) w o → Goes w o (outcomeIn m w o bytes x)
+    go unlisted f = inl refl
+    go exits f = inl refl
+    go (acts (toT g)) f = inl refl
+    go (acts (toHalfT g)) f = inl refl
+    go (acts loadsByte) f = inl refl
+    go (acts loadsWord) f = inl refl
+    go (acts storesByte) f = inl refl
+    go (acts storesWord) f = inl refl
+    go (branches c) f = branch-goes w o f
+    go (works k) f = inl refl
 
 -- a right P
 pub acts-place : (p word : ℕ) (o : Operands) (bytes memory : ℕ) (registers : List ℕ) (flags : ℕ) → rightLength bytes ≡ true → verdictOf p word o bytes ≡ 0 → byItems word ≡ false

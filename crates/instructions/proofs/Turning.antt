@@ -16,7 +16,8 @@ use Rattle.fields.proofs.Lists.{byte-store, byte-field}
 use Rattle.fields.specs.Memory.{Kept}
 use Rattle.instructions.specs.declared.lanes.Lane.{Lane}
 use Rattle.instructions.specs.declared.lanes.Gating.{Gating}
-use Rattle.instructions.specs.Items.{Place, bits, Made, Shape, valueAt, storedAt, madeAt, itemAt, flagsAt, Worked, worked, turn, turns}
+use Rattle.instructions.specs.declared.items.Made.{Made}
+use Rattle.instructions.specs.Items.{Place, bits, Shape, valueAt, storedAt, madeAt, itemAt, flagsAt, Worked, worked, turn, turns}
 use Rattle.instructions.specs.Plan.{taken, sourceItem, controlBit, senseOf}
 use Rattle.instructions.specs.Loops.{Settled, Gate, sourceBy, controlBy, laned}
 

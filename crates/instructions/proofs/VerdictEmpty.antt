@@ -14,18 +14,22 @@ use Rattle.fields.specs.declared.gathers.Runs.{Runs}
 use Rattle.fields.specs.declared.units.BitAddress.{BitAddress}
 use Rattle.fields.specs.Field.{field}
 use Rattle.fields.specs.Extents.{fieldOf, absentField, aligned, inside, shares, inPlace}
-use Rattle.fields.specs.Gathers.{furthest, compressR}
+use Rattle.fields.specs.Gathers.{furthest, compressItems, mergeItems, compressR}
 use Rattle.fields.proofs.FieldMeaning.{empty-unchecked}
 use Rattle.fields.proofs.GatherMeaning.{merge-s-unread, mask-s-unread}
 use Rattle.instructions.specs.declared.operands.Operands.{Operands}
 use Rattle.instructions.specs.declared.layout.Fields.{Fields}
-use Rattle.instructions.specs.declared.table.Row.{Row}
-use Rattle.instructions.specs.declared.table.Found.{Found}
-use Rattle.instructions.specs.Table.{kindOf, branch, loadByte, storeByte, loadWord, storeWord, compress, merge, mask, twoSources, oneSource, halfResult, move}
-use Rattle.instructions.specs.Operands.{foundIn, rowSays, gBit}
-use Rattle.instructions.specs.Layout.{lengthIn, baseIn, indexed, fieldsAt, noFields, sourceOf, shortOf, controlOf, resultOf, vectorOf, runsOf, zerosOf, compressOf, wovenOf, mergeOf, maskOf, moveOf, branchOf, ofKind, fieldsOf}
+use Rattle.instructions.specs.declared.items.Rule.{Rule}
+use Rattle.instructions.specs.Meanings.{Work, gathers, eachOfAB, eachOfA, halfOfA, moves, Meaning, unlisted, exits, acts, branches, works, goesByItems, kindFor}
+use Rattle.instructions.specs.Operands.{meaningIn, gBit, R, S, T}
+use Rattle.instructions.specs.Plan.{itemsOf}
+use Rattle.instructions.specs.Planned.{planBy, planIn}
+use Rattle.instructions.specs.Instruction.{byItems, planOf, countOf}
+use Rattle.instructions.specs.Layout.{lengthIn, baseIn, indexed, sourceOf, shortOf, controlOf, resultOf, vectorOf, runsOf, zerosOf, compressOf, wovenOf, mergeOf, maskOf, moveOf, ofKind, fieldsOf}
 use Rattle.instructions.specs.Verdict.{misaligned, outside, overlapping}
 use Rattle.instructions.specs.Inner.{refusalOf}
+use Rattle.instructions.proofs.VerdictTests.{never}
+use Rattle.instructions.proofs.LayoutMade.{fields-mean}
 
 abbrev Bare : Field → Type 0
 Bare f = f .bits .0 ≡ 0
@@ -58,14 +62,6 @@ empty-passes f n e =
 
 -- ---- an instruction with no items
 
--- with no items, and no branch taken, there is nothing to check
-record Quiet (f : Fields) : Type 0 where
-  empty : f .items ≡ 0 → f .taken ≡ false → Empty f
-
-quiet-or : (b : Bool) (x y : Fields) → Quiet x → Quiet y → Quiet (cond b x y)
-quiet-or true x y p q = p
-quiet-or false x y p q = q
-
 no-bits : (u : U.Unit) (b : BitAddress) (n : ℕ) → n ≡ 0 → Bare (fieldOf u b n)
 no-bits Bit b n e = omega arith
 no-bits Byte b n e = omega arith
@@ -76,16 +72,6 @@ bare-or : (t : Bool) (x y : Field) → Bare x → Bare y → Bare (cond t x y)
 bare-or true x y p q = p
 bare-or false x y p q = q
 
-none-quiet : Quiet noFields
-none-quiet = record { empty = λ e t. record { result = refl; first = refl; second = refl; control = refl; short = refl; taken = refl } }
-
-branch-quiet : (w : ℕ) (o : Operands) → Quiet (branchOf w o)
-branch-quiet w o = record { empty = λ e t. record { result = refl; first = refl; second = refl; control = refl; short = refl; taken = t } }
-
--- an instruction of one item
-one-quiet : (r a b k : Field) (s : Bool) → Quiet (fieldsAt r a b k 1 s)
-one-quiet r a b k s = record { empty = λ e t. absurd (omega arith) }
-
 source-bare : (free : Bool) (d n : ℕ) → n ≡ 0 → Bare (sourceOf free d n)
 unfolding sourceOf
 source-bare free d n e = bare-or free absentField (fieldOf Word (baseIn d) n) refl (no-bits Word (baseIn d) n e)
@@ -95,17 +81,15 @@ unfolding shortOf
 short-not true d n e = refl
 short-not false d n e = le-ltb (lengthIn d) n (omega arith)
 
-vector-quiet : (w : ℕ) (o : Operands) (u : U.Unit) (one : Bool) → Quiet (vectorOf w o (resultOf u o) one)
+vector-empty : (w : ℕ) (o : Operands) (u : U.Unit) (one : Bool) → lengthIn (o .c) ≡ 0 → Empty (vectorOf w o (resultOf u o) one)
 unfolding vectorOf controlOf
-vector-quiet w o u one = record {
-  empty = λ e t. record {
-    result = no-bits u (baseIn (o .c)) (lengthIn (o .c)) e;
-    first = source-bare (gBit 3 w) (o .a) (lengthIn (o .c)) e;
-    second = source-bare (one || gBit 4 w) (o .b) (lengthIn (o .c)) e;
-    control = bare-or (eqb (field 64 48 8 w) 0) absentField (fieldOf Bit (baseIn (o .z)) (lengthIn (o .c))) refl (no-bits Bit (baseIn (o .z)) (lengthIn (o .c)) e);
-    short = rw (short-not (gBit 3 w) (o .a) (lengthIn (o .c)) e, short-not (one || gBit 4 w) (o .b) (lengthIn (o .c)) e);
-    taken = refl;
-  };
+vector-empty w o u one e = record {
+  result = no-bits u (baseIn (o .c)) (lengthIn (o .c)) e;
+  first = source-bare (gBit 3 w) (o .a) (lengthIn (o .c)) e;
+  second = source-bare (one || gBit 4 w) (o .b) (lengthIn (o .c)) e;
+  control = bare-or (eqb (field 64 48 8 w) 0) absentField (fieldOf Bit (baseIn (o .z)) (lengthIn (o .c))) refl (no-bits Bit (baseIn (o .z)) (lengthIn (o .c)) e);
+  short = rw (short-not (gBit 3 w) (o .a) (lengthIn (o .c)) e, short-not (one || gBit 4 w) (o .b) (lengthIn (o .c)) e);
+  taken = refl;
 }
 
 zeros-bare : (d n : ℕ) → n ≡ 0 → Bare (zerosOf d n)
@@ -116,71 +100,58 @@ none-read : (past : ℕ → ℕ) (n : ℕ) → n ≡ 0 → furthest past n ≡ 0
 unfolding furthest
 none-read past n e = rw e
 
-compress-quiet : (o : Operands) → Quiet (compressOf o)
-compress-quiet o = record {
-  empty = λ e t. record {
-    result = no-bits Bit (baseIn (o .a)) _ e;
-    first = no-bits Bit (baseIn (o .g)) (compressR (runsOf o)) (none-read _ _ e);
-    second = refl;
-    control = refl;
-    short = refl;
-    taken = refl;
-  };
+compress-empty : (o : Operands) → compressItems (runsOf o) ≡ 0 → Empty (compressOf o)
+compress-empty o e = record {
+  result = no-bits Bit (baseIn (T o)) (compressItems (runsOf o)) e;
+  first = no-bits Bit (baseIn (R o)) (compressR (runsOf o)) (none-read _ (compressItems (runsOf o)) e);
+  second = refl;
+  control = refl;
+  short = refl;
+  taken = refl;
 }
 
 -- merge and mask, by how far they read
-woven-quiet : (o : Operands) (pastR pastS : ℕ → ℕ) (n : ℕ) → Quiet (wovenOf o n (furthest pastR n) (furthest pastS n))
-woven-quiet o pastR pastS n = record {
-  empty = λ e t. record {
-    result = no-bits Bit (baseIn (o .a)) n e;
-    first = no-bits Bit (baseIn (o .g)) _ (none-read pastR n e);
-    second = zeros-bare (o .x) _ (none-read pastS n e);
-    control = refl;
-    short = refl;
-    taken = refl;
-  };
+woven-empty : (o : Operands) (pastR pastS : ℕ → ℕ) (n : ℕ) → n ≡ 0 → Empty (wovenOf o n (furthest pastR n) (furthest pastS n))
+woven-empty o pastR pastS n e = record {
+  result = no-bits Bit (baseIn (T o)) n e;
+  first = no-bits Bit (baseIn (R o)) _ (none-read pastR n e);
+  second = zeros-bare (S o) _ (none-read pastS n e);
+  control = refl;
+  short = refl;
+  taken = refl;
 }
 
-move-quiet : (o : Operands) → Quiet (moveOf o)
-move-quiet o = record {
-  empty = λ e t. record {
-    result = no-bits Byte (indexed Byte (o .c) (o .z)) (lengthIn (o .c)) e;
-    first = no-bits Byte (indexed Byte (o .a) (o .x)) (min (lengthIn (o .a)) (lengthIn (o .c))) (let z : lengthIn (o .c) ≡ 0 = e in omega arith);
-    second = refl;
-    control = refl;
-    short = refl;
-    taken = refl;
-  };
+move-empty : (o : Operands) → lengthIn (o .c) ≡ 0 → Empty (moveOf o)
+move-empty o e = record {
+  result = no-bits Byte (indexed Byte (o .c) (o .z)) (lengthIn (o .c)) e;
+  first = no-bits Byte (indexed Byte (o .a) (o .x)) (min (lengthIn (o .a)) (lengthIn (o .c))) (let z : lengthIn (o .c) ≡ 0 = e in omega arith);
+  second = refl;
+  control = refl;
+  short = refl;
+  taken = refl;
 }
 
-kind-quiet : (k w : ℕ) (o : Operands) → Quiet (ofKind k w o)
-unfolding ofKind
-kind-quiet k w o =
-    quiet-or (eqb k branch) _ _ (branch-quiet w o)
-    (quiet-or (eqb k loadByte) _ _ (one-quiet _ _ _ _ _)
-    (quiet-or (eqb k storeByte) _ _ (one-quiet _ _ _ _ _)
-    (quiet-or (eqb k loadWord) _ _ (one-quiet _ _ _ _ _)
-    (quiet-or (eqb k storeWord) _ _ (one-quiet _ _ _ _ _)
-    (quiet-or (eqb k compress) _ _ (compress-quiet o)
-    (quiet-or (eqb k merge) _ _ (woven-quiet o _ _ _)
-    (quiet-or (eqb k mask) _ _ (woven-quiet o _ _ _)
-    (quiet-or (eqb k twoSources) _ _ (vector-quiet w o Word false)
-    (quiet-or (eqb k oneSource) _ _ (vector-quiet w o Word true)
-    (quiet-or (eqb k halfResult) _ _ (vector-quiet w o HalfWord true)
-    (quiet-or (eqb k move) _ _ (move-quiet o)
-    none-quiet)))))))))))
+work-empty : (k : Work) (w : ℕ) (o : Operands) → itemsOf (planBy k w o) ≡ 0 → Empty (ofKind (kindFor (works k)) w o)
+unfolding ofKind itemsOf
+work-empty (gathers Rule.Compress) w o e = compress-empty o e
+work-empty (gathers Rule.Merge) w o e = woven-empty o _ _ (mergeItems (runsOf o)) e
+work-empty (gathers Rule.Mask) w o e = woven-empty o _ _ (mergeItems (runsOf o)) e
+work-empty (eachOfAB f) w o e = vector-empty w o Word false e
+work-empty (eachOfA f) w o e = vector-empty w o Word true e
+work-empty (halfOfA f) w o e = vector-empty w o HalfWord true e
+work-empty moves w o e = move-empty o e
 
-no-items-empty : (w : ℕ) (o : Operands) → Quiet (fieldsOf w o)
-unfolding fieldsOf
-no-items-empty w o = go (foundIn w)
+-- "A vector, bit or move instruction that has no items skips 8 to 11": the count is the one by which it runs
+pub no-items-pass : (w : ℕ) (o : Operands) (n : ℕ) → byItems w ≡ true → countOf w o ≡ 0 → refusalOf (fieldsOf w o) n ≡ 0
+unfolding byItems planOf planIn
+no-items-pass w o n is none = ap (λ (f : Fields). refusalOf f n) (fields-mean w o) ∙ go (meaningIn w) is none
   where
-    go : (f : Found) → Quiet (rowSays noFields (λ r. ofKind (kindOf r) w o) f)
-    go Found.Nothing = none-quiet
-    go (Found.At r) = kind-quiet (kindOf r) w o
-
--- "has no items skips 8 to 11"
-pub no-items-pass : (w : ℕ) (o : Operands) (n : ℕ) → fieldsOf w o .items ≡ 0 → fieldsOf w o .taken ≡ false → refusalOf (fieldsOf w o) n ≡ 0
-no-items-pass w o n e t = empty-passes (fieldsOf w o) n (no-items-empty w o .empty e t)
+    go : (m : Meaning) → goesByItems m ≡ true → itemsOf (planIn m w o) ≡ 0 → refusalOf (ofKind (kindFor m) w o) n ≡ 0
+    go unlisted is e = never (sym is)
+    go exits is e = never (sym is)
+    go (acts a) is e = never (sym is)
+    go (branches c) is e = never (sym is)
+    go (works k) is e = empty-passes (ofKind (kindFor (works k)) w o) n (work-empty k w o e)
 
 -- ---- "one that nothing is read from is empty and is not checked under 8, 10 or 11"
 

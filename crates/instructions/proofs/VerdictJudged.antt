@@ -10,8 +10,8 @@ use Rattle.instructions.specs.declared.table.Row.{Row}
 use Rattle.instructions.specs.declared.table.Found.{Found}
 use Rattle.instructions.specs.declared.words.Refusal.{Refusal}
 use Rattle.instructions.specs.declared.words.Decoded.{Decoded}
-use Rattle.instructions.specs.Table.{formatOf, namedOf, kindOf, exit, long}
-use Rattle.instructions.specs.Operands.{foundIn, rowSays}
+use Rattle.instructions.specs.Table.{formatOf, namedOf, kindOf, long}
+use Rattle.instructions.specs.Operands.{codeIn, foundIn, rowSays}
 use Rattle.instructions.specs.Words.{notZero, missing, numberOf, decoded}
 use Rattle.instructions.proofs.WordsOrder.{refused-5, refused-6, refused-7, listed-passes}
 use Rattle.instructions.specs.Layout.{noFields, ofKind, fieldsOf}
@@ -40,7 +40,7 @@ module _ (w : ℕ) (o : Operands) (n : ℕ) where
       cond (rowSays true (λ r. false) f) 5
       (cond (rowSays false (λ r. notZero r w) f) 6
       (cond (rowSays false (λ r. missing (namedOf r) w) f) 7
-      (cond (rowSays false (λ r. eqb (kindOf r) exit) f) 1
+      (cond (eqb (codeIn w) 0x09) 1
       (refusalOf (rowSays noFields (λ r. ofKind (kindOf r) w o) f) n))))
 
   listed-after : (r : Row) → decoded w ≡ Decoded.Listed r → after (foundIn w) ≡ listedOf r w o n

@@ -65,44 +65,6 @@ clear r s n hr hs ir is e = go (shares r s) refl
     go true t = let p = in-place-words r s (and-not _ _ e t) in inl (p .0, (p .1 .0, ap (λ (x : ℕ). x - 0x4000) (p .1 .1)))
     go false t = inr (moved (shares-apart r s hr hs t))
 
--- bits, bytes and half words are never in place
-pub clear-apart : (r s : Field) (n : ℕ) → (widthOf (r .unit) ≡ 64 → ⊥) → 0 < r .bits .0 → 0 < s .bits .0 → inside r n ≡ true → inside s n ≡ true → clash r s ≡ false → Apart (offset r) (r .bits .0) (offset s) (s .bits .0)
-clear-apart r s n other hr hs ir is e = go (clear r s n hr hs ir is e)
-  where
-    go : ((widthOf (r .unit) ≡ 64) × ((widthOf (s .unit) ≡ 64) × (offset r ≡ offset s))) ⊎ Apart (offset r) (r .bits .0) (offset s) (s .bits .0) → Apart (offset r) (r .bits .0) (offset s) (s .bits .0)
-    go (inl p) = absurd (other (p .0))
-    go (inr d) = d
-
--- nor does the control field clash, of which no bit is shared
-pub unshared-clear : (r s : Field) → shares r s ≡ false → clash r s ≡ false
-unshared-clear r s e = rw e
-
--- ---- fields of as many items, as the loops take them
-
-module _ (u v : U.Unit) (c a : BitAddress) (items n : ℕ) (some : 0 < items) (few : items ≤ 65535) where
-  has : (t : U.Unit) (b : BitAddress) → fieldOf t b items .bits .0 ≡ items * widthOf t
-  has t b = let f = length-fits t b items few in all-bits t b items (omega arith)
-
-  wide : (t : U.Unit) → items ≤ items * widthOf t
-  wide Bit = omega arith
-  wide Byte = omega arith
-  wide HalfWord = omega arith
-  wide Word = omega arith
-
-  there : (t : U.Unit) (b : BitAddress) → 0 < fieldOf t b items .bits .0
-  there t b = let e = has t b in let w = wide t in omega arith
-
-  -- the source of a vector, or its control field: item by item is all at once
-  pub vector-source : inside (fieldOf u c items) n ≡ true → inside (fieldOf v a items) n ≡ true → clash (fieldOf u c items) (fieldOf v a items) ≡ false → Source (8 * n) (c .0 - 0x4000) (widthOf u) items (a .0 - 0x4000) (widthOf v)
-  vector-source ic ia e = go (clear (fieldOf u c items) (fieldOf v a items) n (there u c) (there v a) ic ia e)
-    where
-      ends : (0x4000 ≤ a .0) × (endOf (fieldOf v a items) ≤ 0x4000 + 8 * n)
-      ends = inside-ends (fieldOf v a items) n (there v a) ia
-
-      go : ((widthOf u ≡ 64) × ((widthOf v ≡ 64) × (c .0 - 0x4000 ≡ a .0 - 0x4000))) ⊎ Apart (c .0 - 0x4000) (fieldOf u c items .bits .0) (a .0 - 0x4000) (fieldOf v a items .bits .0) → Source (8 * n) (c .0 - 0x4000) (widthOf u) items (a .0 - 0x4000) (widthOf v)
-      go (inl (wu, (wv, s))) = rw (s, wu, wv) in-place
-      go (inr d) = let x = ends in let y = has v a in apart {a = a .0 - 0x4000} {v = widthOf v} (omega arith) (rw (has u c, has v a) at d)
-
 -- ---- all that passing says
 
 pub record Passed (f : Fields) (n : ℕ) : Type 0 where

@@ -2,11 +2,9 @@
 -- store one field.
 use mathlib.Core.Path.{_≡_, refl, sym, ap, ap₂, _∙_}
 use mathlib.Core.Bool.{Bool, true, false, cond, not, _&&_, _||_}
-use mathlib.Core.Logic.{_⊎_, inl, inr}
-use Prim.Native.Nat.{ℕ, zero, suc, _*_, _/_, _%_, _^_, _≤_}
+use Prim.Native.Nat.{ℕ, _*_, _/_, _%_, _^_}
 use native.Mathlib.Omega.{arith}
-use lib.Dec.{eqb, leb}
-use borrow.Author.Tests.{le-leb}
+use lib.Dec.{eqb}
 use Rattle.fields.specs.declared.extents.Field.{Field}
 use Rattle.fields.specs.declared.extents.Unit.the-variants.{Byte, Word}
 use Rattle.fields.specs.Extents.{absentField, empty, aligned, inside, shares}
@@ -15,17 +13,19 @@ use Rattle.instructions.specs.declared.table.Row.{Row}
 use Rattle.instructions.specs.declared.table.Found.{Found}
 use Rattle.instructions.specs.declared.words.Refusal.{Refusal}
 use Rattle.instructions.specs.declared.words.Decoded.{Decoded}
-use Rattle.instructions.specs.Table.{formatOf, kindOf, exit, compress, long, found}
-use Rattle.instructions.specs.Operands.{rowSays}
+use Rattle.instructions.specs.declared.table.Kind.{Kind}
+use Rattle.instructions.specs.Table.{formatOf, kindOf, long, found}
+use Rattle.instructions.specs.Operands.{codeIn, foundIn, rowSays}
 use Rattle.instructions.specs.Words.{numberOf, decoded}
 use Rattle.instructions.specs.Fetch.{longIn, there, wordAt, fetchOf, unfetchedAt}
 use Rattle.instructions.specs.Branches.{takenOf, targetOf}
 use Rattle.instructions.specs.Layout.{noFields, itemAt, loadAt, storeAt, branchOf, ofKind}
 use Rattle.instructions.specs.Verdict.{misaligned, outside, overlapping, verdictOf}
-use Rattle.instructions.specs.Inner.{refusalOf, listedOf, reachedBy, arrives, oneStepOf, cutOff}
-use Rattle.instructions.specs.Instruction.{byItems, oneStep}
+use Rattle.instructions.specs.Inner.{hasItems, refusalOf, listedOf, reachedBy, arrives, oneStepOf, cutOff}
+use Rattle.instructions.specs.Instruction.{byItems, oneStep, mayWork}
+use Rattle.instructions.proofs.TableRules.{ends, Its, its}
 use Rattle.instructions.proofs.WordsOrder.{listed-passes}
-use Rattle.instructions.proofs.VerdictJudged.{refusal-is, refused-not-there, refused-word, listed-word}
+use Rattle.instructions.proofs.VerdictJudged.{refusal-is, refused-not-there, refused-word, listed-not-there, listed-word}
 use Rattle.instructions.proofs.FetchPlaces.{first-half, short-unfetched}
 
 -- ---- the refusal of few fields
@@ -101,51 +101,27 @@ and-true : (b : Bool) → b ≡ (b && true)
 and-true true = refl
 and-true false = refl
 
-module _ (w : ℕ) (o : Operands) (n : ℕ) where
-  pub register-step : true ≡ oneStepOf 1 w o n
-  unfolding oneStepOf ofKind
-  register-step = rw (none-passes n)
+and-false : (b : Bool) → false ≡ (b && false)
+and-false true = refl
+and-false false = refl
 
-  pub branch-step : arrives w o ≡ oneStepOf 2 w o n
-  unfolding oneStepOf ofKind
-  branch-step = rw (branch-passes w o n) (and-true (arrives w o))
-
-  pub load-byte-step : reachedBy (itemAt Byte o) n ≡ oneStepOf 3 w o n
-  unfolding oneStepOf ofKind
-  load-byte-step = rw (load-passes (itemAt Byte o) n) (and-true (reachedBy (itemAt Byte o) n))
-
-  pub store-byte-step : reachedBy (itemAt Byte o) n ≡ oneStepOf 4 w o n
-  unfolding oneStepOf ofKind
-  store-byte-step = rw (store-passes (itemAt Byte o) n) (and-true (reachedBy (itemAt Byte o) n))
-
-  pub load-word-step : reachedBy (itemAt Word o) n ≡ oneStepOf 5 w o n
-  unfolding oneStepOf ofKind
-  load-word-step = rw (load-passes (itemAt Word o) n) (and-true (reachedBy (itemAt Word o) n))
-
-  pub store-word-step : reachedBy (itemAt Word o) n ≡ oneStepOf 6 w o n
-  unfolding oneStepOf ofKind
-  store-word-step = rw (store-passes (itemAt Word o) n) (and-true (reachedBy (itemAt Word o) n))
-
-  -- exit, and what goes by items
-  pub no-step : (k : ℕ) → (k ≡ 0) ⊎ (7 ≤ k) → false ≡ oneStepOf k w o n
-  unfolding oneStepOf
-  no-step k (inl e) = rw e
-  no-step k (inr h) = go (not (eqb k 0) && eqb (refusalOf (ofKind k w o) n) 0)
-    where
-      go : (b : Bool) → false ≡ (b && not (leb 7 k))
-      go true = rw (le-leb 7 k h)
-      go false = refl
-
--- what is left of the kinds
-pub few : (k : ℕ) → (k ≡ 1 → ⊥) → (k ≡ 2 → ⊥) → (k ≡ 3 → ⊥) → (k ≡ 4 → ⊥) → (k ≡ 5 → ⊥) → (k ≡ 6 → ⊥) → (k ≡ 0) ⊎ (7 ≤ k)
-few zero a b c d e f = inl refl
-few (suc zero) a b c d e f = absurd (a refl)
-few (suc (suc zero)) a b c d e f = absurd (b refl)
-few (suc (suc (suc zero))) a b c d e f = absurd (c refl)
-few (suc (suc (suc (suc zero)))) a b c d e f = absurd (d refl)
-few (suc (suc (suc (suc (suc zero))))) a b c d e f = absurd (e refl)
-few (suc (suc (suc (suc (suc (suc zero)))))) a b c d e f = absurd (f refl)
-few (suc (suc (suc (suc (suc (suc (suc k))))))) a b c d e f = inr (omega arith)
+-- by the kind, from what the table says of it: whether it is the exit's, and whether it has items
+pub step-by-kind : (k : Kind) (w : ℕ) (o : Operands) (n : ℕ) → oneStepOf k w o n ≡ (eqb (cond (ends k) 1 (refusalOf (ofKind k w o) n)) 0 && not (hasItems k))
+unfolding oneStepOf ofKind
+step-by-kind Kind.Exit w o n = refl
+step-by-kind Kind.Register w o n = rw (none-passes n)
+step-by-kind Kind.Branch w o n = rw (branch-passes w o n) (and-true (arrives w o))
+step-by-kind Kind.LoadByte w o n = rw (load-passes (itemAt Byte o) n) (and-true (reachedBy (itemAt Byte o) n))
+step-by-kind Kind.StoreByte w o n = rw (store-passes (itemAt Byte o) n) (and-true (reachedBy (itemAt Byte o) n))
+step-by-kind Kind.LoadWord w o n = rw (load-passes (itemAt Word o) n) (and-true (reachedBy (itemAt Word o) n))
+step-by-kind Kind.StoreWord w o n = rw (store-passes (itemAt Word o) n) (and-true (reachedBy (itemAt Word o) n))
+step-by-kind Kind.Compress w o n = and-false (eqb (refusalOf (ofKind Kind.Compress w o) n) 0)
+step-by-kind Kind.Merge w o n = and-false (eqb (refusalOf (ofKind Kind.Merge w o) n) 0)
+step-by-kind Kind.Mask w o n = and-false (eqb (refusalOf (ofKind Kind.Mask w o) n) 0)
+step-by-kind Kind.TwoSources w o n = and-false (eqb (refusalOf (ofKind Kind.TwoSources w o) n) 0)
+step-by-kind Kind.OneSource w o n = and-false (eqb (refusalOf (ofKind Kind.OneSource w o) n) 0)
+step-by-kind Kind.HalfResult w o n = and-false (eqb (refusalOf (ofKind Kind.HalfResult w o) n) 0)
+step-by-kind Kind.Move w o n = and-false (eqb (refusalOf (ofKind Kind.Move w o) n) 0)
 
 -- ---- the word
 
@@ -198,34 +174,89 @@ module _ (w : ℕ) (o : Operands) (n p : ℕ) where
         go true e = refused-step 4 (refused-not-there w o n p d is-decoded true e refl) refl
         go false e = refused-step (numberOf why) (refused-word w o n p d is-decoded false why (numberOf why) e refl h refl) (number-some why)
 
-    module _ (x : ℕ) (read : w ≡ fetchOf n x p) (r : Row) (e : d ≡ Decoded.Listed r) (u l : Bool) (el : l ≡ longIn w) (eu : u ≡ cutOff p l n) where
-      unfetched-is : u ≡ unfetchedAt p (longIn w) n
-      unfetched-is = eu ∙ cut-unfetched n x p w r read (sym is-decoded ∙ e) l el
-
+    module _ (x : ℕ) (read : w ≡ fetchOf n x p) (r : Row) (e : d ≡ Decoded.Listed r) (u l : Bool) (el : l ≡ long (formatOf r)) (eu : u ≡ cutOff p l n) where
       its-length : longIn w ≡ long (formatOf r)
       unfolding longIn
       its-length = ap (λ (f : Found). rowSays false (λ r. long (formatOf r)) f) (listed-passes w r .0 (sym is-decoded ∙ e) .0)
 
+      unfetched-is : u ≡ unfetchedAt p (longIn w) n
+      unfetched-is = eu ∙ cut-unfetched n x p w r read (sym is-decoded ∙ e) l (el ∙ sym its-length)
+
       pub not-there-no-step : u ≡ true → false ≡ oneStep p w o n
       not-there-no-step h = refused-step 4 (refused-not-there w o n p d is-decoded u unfetched-is h) refl
 
-      of-row : eqb (listedOf r w o n) 0 ≡ (not (eqb (kindOf r) exit) && eqb (refusalOf (ofKind (kindOf r) w o) n) 0)
+      found-row : foundIn w ≡ Found.At r
+      found-row = listed-passes w r .0 (sym is-decoded ∙ e) .0
+
+      its-verdict : cond (ends (kindOf r)) 1 (refusalOf (ofKind (kindOf r) w o) n) ≡ listedOf r w o n
       unfolding listedOf refusalOf
-      of-row = go (eqb (kindOf r) exit) (refusalOf (ofKind (kindOf r) w o) n)
-        where
-          go : (b : Bool) (k : ℕ) → eqb (cond b 1 k) 0 ≡ (not b && eqb k 0)
-          go true k = refl
-          go false k = refl
+      its-verdict = rw (its (codeIn w) r found-row .exit)
 
-      its-items : leb compress (kindOf r) ≡ byItems w
+      its-items : hasItems (kindOf r) ≡ byItems w
       unfolding byItems
-      its-items = ap (λ (f : Found). rowSays false (λ r. leb compress (kindOf r)) f) (sym (listed-passes w r .0 (sym is-decoded ∙ e) .0))
+      its-items = its (codeIn w) r found-row .items
 
-      pub listed-step : (b : Bool) (k : ℕ) → k ≡ kindOf r → u ≡ false → b ≡ oneStepOf k w o n → b ≡ oneStep p w o n
-      unfolding oneStep oneStepOf
+      judged : u ≡ false → listedOf r w o n ≡ verdictOf p w o n
+      judged h = listed-word w o n p d is-decoded r e u (longIn w) (listedOf r w o n) its-length unfetched-is h refl
+
+      pub listed-step : (b : Bool) (k : Kind) → k ≡ kindOf r → u ≡ false → b ≡ oneStepOf k w o n → b ≡ oneStep p w o n
+      unfolding oneStep
       listed-step b k ek h eb =
           eb
-          ∙ ap (λ (x : ℕ). oneStepOf x w o n) ek
-          ∙ ap₂ (λ (x y : Bool). x && not y)
-          (sym of-row ∙ ap (λ (x : ℕ). eqb x 0) (listed-word w o n p d is-decoded r e u (longIn w) (listedOf r w o n) its-length unfetched-is h refl))
-          its-items
+          ∙ ap (λ (x : Kind). oneStepOf x w o n) ek
+          ∙ step-by-kind (kindOf r) w o n
+          ∙ ap₂ (λ (x : ℕ) (y : Bool). eqb x 0 && not y) (its-verdict ∙ judged h) its-items
+
+-- ---- a word that goes by items
+
+-- what has items does not exit
+ends-not : (k : Kind) → hasItems k ≡ true → ends k ≡ false
+ends-not Kind.Exit h = sym h
+ends-not Kind.Register h = refl
+ends-not Kind.Branch h = refl
+ends-not Kind.LoadByte h = refl
+ends-not Kind.StoreByte h = refl
+ends-not Kind.LoadWord h = refl
+ends-not Kind.StoreWord h = refl
+ends-not Kind.Compress h = refl
+ends-not Kind.Merge h = refl
+ends-not Kind.Mask h = refl
+ends-not Kind.TwoSources h = refl
+ends-not Kind.OneSource h = refl
+ends-not Kind.HalfResult h = refl
+ends-not Kind.Move h = refl
+
+module _ (w : ℕ) (o : Operands) (n p : ℕ) (d : Decoded) (is-decoded : d ≡ decoded w) where
+  no-work : (v : ℕ) → v ≡ verdictOf p w o n → eqb v 0 ≡ false → false ≡ mayWork p w o n
+  unfolding mayWork
+  no-work v e h = rw (← e, h) (and-false (byItems w))
+
+  pub refused-no-work : (why : Refusal) → d ≡ Decoded.Refused why → false ≡ mayWork p w o n
+  refused-no-work why h = go (unfetchedAt p (longIn w) n) refl
+    where
+      go : (u : Bool) → u ≡ unfetchedAt p (longIn w) n → false ≡ mayWork p w o n
+      go true e = no-work 4 (refused-not-there w o n p d is-decoded true e refl) refl
+      go false e = no-work (numberOf why) (refused-word w o n p d is-decoded false why (numberOf why) e refl h refl) (number-some why)
+
+  module _ (r : Row) (e : d ≡ Decoded.Listed r) where
+    row-of : Its (codeIn w) r
+    row-of = its (codeIn w) r (listed-passes w r .0 (sym is-decoded ∙ e) .0)
+
+    not-exit : ends (kindOf r) ≡ false → refusalOf (ofKind (kindOf r) w o) n ≡ listedOf r w o n
+    unfolding listedOf refusalOf
+    not-exit x = rw (← row-of .exit, x)
+
+    pub itemless-no-work : (b : Bool) → b ≡ hasItems (kindOf r) → b ≡ false → false ≡ mayWork p w o n
+    unfolding mayWork byItems
+    itemless-no-work b eb h = rw (← row-of .items, ← eb, h)
+
+    module _ (u l : Bool) (el : l ≡ long (formatOf r)) (eu : u ≡ unfetchedAt p l n) where
+      pub not-there-no-work : u ≡ true → false ≡ mayWork p w o n
+      not-there-no-work h = no-work 4 (listed-not-there w o n p d is-decoded r e u l el eu h) refl
+
+      pub work-judged : (b : Bool) (v : ℕ) → b ≡ hasItems (kindOf r) → b ≡ true → u ≡ false → v ≡ refusalOf (ofKind (kindOf r) w o) n → eqb v 0 ≡ mayWork p w o n
+      unfolding mayWork byItems
+      work-judged b v eb hb h ev =
+          let has : hasItems (kindOf r) ≡ true = sym eb ∙ hb in
+          let q : refusalOf (ofKind (kindOf r) w o) n ≡ verdictOf p w o n = not-exit (ends-not (kindOf r) has) ∙ listed-word w o n p d is-decoded r e u l (listedOf r w o n) el eu h refl in
+          rw (← row-of .items, has, ← q, ← ev)

@@ -7,9 +7,10 @@ use Rattle.numbers.specs.Number.{coefficientAt}
 use Rattle.fields.specs.Extents.{aligned, inside, shares, inPlace}
 use Rattle.fields.specs.Gathers.{furthest}
 use Rattle.instructions.specs.declared.operands.Operands.{Operands}
-use Rattle.instructions.specs.Table.{found}
+use Rattle.instructions.specs.Table.{found, meaningOf}
 use Rattle.instructions.specs.Words.{notZero}
-use Rattle.instructions.specs.Branches.{less, compared, takenOf}
+use Rattle.instructions.specs.Meanings.{less}
+use Rattle.instructions.specs.Branches.{takenOf}
 use Rattle.instructions.specs.Layout.{sourceOf, shortOf, controlOf, vectorOf, zerosOf, ofKind, fieldsOf}
 use Rattle.instructions.specs.Fetch.{longIn, there, unfetchedAt}
 use Rattle.instructions.specs.Verdict.{misaligned, outside, overlapping, verdictOf}
@@ -145,5 +146,5 @@ witnesses =
     []
 
 pub witnesses-hold : Each witnesses
-unfolding verdictOf longIn there unfetchedAt found notZero fieldsOf ofKind vectorOf sourceOf shortOf controlOf zerosOf furthest takenOf less compared coefficientAt signedAt aligned inside shares inPlace misaligned outside overlapping
+unfolding verdictOf longIn there unfetchedAt found meaningOf notZero fieldsOf ofKind vectorOf sourceOf shortOf controlOf zerosOf furthest takenOf less coefficientAt signedAt aligned inside shares inPlace misaligned outside overlapping
 witnesses-hold = (refl, (refl, (refl, (refl, (refl, (refl, (refl, (refl, (refl, (refl, (refl, (refl, (refl, (refl, (refl, (refl, (refl, (refl, (refl, (refl, (refl, (refl, (refl, (refl, (refl, (refl, (refl, (refl, (refl, (refl, (refl, (refl, (refl, (refl, (refl, (refl, (refl, (refl, (refl, (refl, (refl, (refl, (refl, (refl, (refl, (refl, (refl, (refl, (refl, (refl, (refl, (refl, (refl, (refl, (refl, (refl, (refl, (refl, (refl, (refl, (refl, (refl, (refl, (refl, (refl, (refl, (refl, (refl, (refl, (refl, (refl, (refl, (refl, (refl, (refl, (refl, (refl, (refl, (refl, (refl, (refl, (refl, (refl, (refl, (refl, (refl, tt))))))))))))))))))))))))))))))))))))))))))))))))))))))))))))))))))))))))))))))))))))))

@@ -18,8 +18,6 @@ use Rattle.instructions.specs.declared.items.Source.{Source}
 use Rattle.instructions.specs.declared.items.Source.the-variants.{Field, Value}
 use Rattle.instructions.specs.declared.items.Control.{Control}
 use Rattle.instructions.specs.declared.items.Control.the-variants.{Every, Where}
-use Rattle.instructions.specs.declared.items.Operation.{Operation}
-use Rattle.instructions.specs.declared.items.Operation.the-variants.{Add, Subtract, Shift, Truncate, Floor, Ceiling, Contract, RoundedContract, Transmit}
 use Rattle.instructions.specs.declared.items.VectorPlan.{VectorPlan}
 use Rattle.instructions.specs.declared.items.Rule.{Rule}
 use Rattle.instructions.specs.declared.items.Rule.the-variants.{Compress, Merge, Mask}
@@ -27,12 +25,13 @@ use Rattle.instructions.specs.declared.items.SecondBits.{SecondBits}
 use Rattle.instructions.specs.declared.items.SecondBits.the-variants.{From, Zeros}
 use Rattle.instructions.specs.declared.items.BitPlan.{BitPlan}
 use Rattle.instructions.specs.declared.items.MovePlan.{MovePlan}
-use Rattle.instructions.specs.declared.items.Plan as P
-use Rattle.instructions.specs.declared.items.Plan.the-variants.{Vector, Bits, Move}
+use Rattle.instructions.specs.declared.items.Made.{Made}
 use Rattle.instructions.specs.Items.{Place, bits, fixed, Turned, worked}
-use Rattle.instructions.specs.Plan.{secondOf, widthOf, makesOf, vector, taken, bitOf, takenBy, bitItems, itemsOf}
+use Rattle.instructions.specs.Plan.{vector, taken, bitOf, takenBy, bitItems, Plan, vectors, bitRuns, byteMove, itemsOf}
 use Rattle.instructions.specs.Accepted.{SourcePasses, ControlPasses, SecondPasses, VectorPasses, BitsPass, MovePasses, Ready}
-use Rattle.instructions.specs.Loops.{laneOf, gatingOf, sourceBy, controlBy, lanesFor, lanesOf, LanesReach, sidesOf, periodOf, cursorAt, wovenAt, ReadyBits, ReadyBytes, Done}
+use Rattle.instructions.specs.Meanings.{gathers, eachOfAB, eachOfA, halfOfA, moves, Meaning, unlisted, exits, acts, branches, works}
+use Rattle.instructions.specs.Table.{meaningOf}
+use Rattle.instructions.specs.Loops.{widthBy, widthAt, laneOf, gatingOf, sourceBy, controlBy, lanesFor, lanesOf, LanesReach, sidesOf, periodOf, cursorAt, wovenAt, ReadyBits, ReadyBytes, Done}
 use Rattle.instructions.proofs.Turning.{alike}
 use Rattle.instructions.proofs.Passing.{Safe, bit-safe}
 
@@ -61,20 +60,25 @@ a-sense (Where z true) = omega arith
 a-sense (Where z false) = omega arith
 
 -- an item is whole bytes
-record Bytewide (w : ℕ) : Type 0 where
-  some : 0 < w / 8
-  whole : w ≡ 8 * (w / 8)
+pub record Bytewide (w : ℕ) : Type 0 where
+  pub some : 0 < w / 8
+  pub whole : w ≡ 8 * (w / 8)
 
-bytewide : (o : Operation) → Bytewide (widthOf o)
-bytewide Add = record { some = omega arith; whole = refl }
-bytewide Subtract = record { some = omega arith; whole = refl }
-bytewide Shift = record { some = omega arith; whole = refl }
-bytewide Truncate = record { some = omega arith; whole = refl }
-bytewide Floor = record { some = omega arith; whole = refl }
-bytewide Ceiling = record { some = omega arith; whole = refl }
-bytewide Contract = record { some = omega arith; whole = refl }
-bytewide RoundedContract = record { some = omega arith; whole = refl }
-bytewide Transmit = record { some = omega arith; whole = refl }
+-- as those of every vector are
+pub vector-wide : (code : ℕ) → 0 < widthAt code → Bytewide (widthAt code)
+unfolding widthAt
+vector-wide code h = go (meaningOf code) h
+  where
+    go : (m : Meaning) → 0 < widthBy m → Bytewide (widthBy m)
+    go unlisted h = absurd (omega arith)
+    go exits h = absurd (omega arith)
+    go (acts a) h = absurd (omega arith)
+    go (branches c) h = absurd (omega arith)
+    go (works (gathers rule)) h = absurd (omega arith)
+    go (works (eachOfAB f)) h = record { some = omega arith; whole = refl }
+    go (works (eachOfA f)) h = record { some = omega arith; whole = refl }
+    go (works (halfOfA f)) h = record { some = omega arith; whole = refl }
+    go (works moves) h = absurd (omega arith)
 
 result-reach : (L c n w k i : ℕ) → w ≡ 8 * k → 0 < k → c + n * w ≤ 8 * L → i < n → c / 8 + i * k + k ≤ L
 result-reach L c n w k i e hk h l =
@@ -92,28 +96,26 @@ few L c (suc n) w k e hk h = let r = result-reach L c (suc n) w k n e hk h (omeg
     more : (n k : ℕ) → 0 < k → n * 1 ≤ n * k
     more n k h = mul-le-mul-left n h
 
-pub vector-ready : (m : List ℕ) (v : VectorPlan) (n : ℕ) → length m ≤ 65536 → n ≤ v .items → VectorPasses (size m) v → LanesReach m (lanesFor v) (widthOf (v .operation) / 8) n
+pub vector-ready : (m : List ℕ) (v : VectorPlan) (w n : ℕ) → Bytewide w → length m ≤ 65536 → n ≤ v .items → VectorPasses (size m) w v → LanesReach m (lanesFor v) (w / 8) n
 unfolding lanesFor
-vector-ready m v n hs hn h =
-    let k = bytewide (v .operation) in
-    let f : v .items ≤ length m = few (length m) (v .result) (v .items) (widthOf (v .operation)) (widthOf (v .operation) / 8) (k .whole) (k .some) (h .upto) in
+vector-ready m v w n k hs hn h =
+    let f : v .items ≤ length m = few (length m) (v .result) (v .items) w (w / 8) (k .whole) (k .some) (h .upto) in
     record {
       small = hs;
       few = omega arith;
       a-bit = a-sense (v .control);
-      upto-a = λ e i l. source-reach m (v .result) (widthOf (v .operation)) (v .items) i (v .first) (h .first) e (omega arith);
-      upto-b = λ e i l. source-reach m (v .result) (widthOf (v .operation)) (v .items) i (secondOf (v .operation) (v .second)) (h .second) e (omega arith);
-      upto-z = λ e i l. control-reach (size m) (v .result) (widthOf (v .operation)) (v .items) i (v .control) (h .control) e (omega arith);
-      upto-c = λ i l. result-reach (length m) (v .result) (v .items) (widthOf (v .operation)) (widthOf (v .operation) / 8) i (k .whole) (k .some) (h .upto) (omega arith);
+      upto-a = λ e i l. source-reach m (v .result) w (v .items) i (v .first) (h .first) e (omega arith);
+      upto-b = λ e i l. source-reach m (v .result) w (v .items) i (v .second) (h .second) e (omega arith);
+      upto-z = λ e i l. control-reach (size m) (v .result) w (v .items) i (v .control) (h .control) e (omega arith);
+      upto-c = λ i l. result-reach (length m) (v .result) (v .items) w (w / 8) i (k .whole) (k .some) (h .upto) (omega arith);
     }
 
-pub vector-worked : (m : List ℕ) (v : VectorPlan) (from n f : ℕ) (m' : List ℕ) (f' : ℕ) → VectorPasses (size m) v
-    → Turned (lanesOf (makesOf (v .operation)) (widthOf (v .operation)) (lanesFor v)) from n m f m' f'
-    → Turned (vector (v .first) (secondOf (v .operation) (v .second)) (v .control) (v .result) (widthOf (v .operation)) (makesOf (v .operation))) from n m f m' f'
+pub vector-worked : (m : List ℕ) (v : VectorPlan) (w : ℕ) (g : ℕ → ℕ → Made) (from n f : ℕ) (m' : List ℕ) (f' : ℕ) → VectorPasses (size m) w v
+    → Turned (lanesOf g w (lanesFor v)) from n m f m' f' → Turned (vector (v .first) (v .second) (v .control) (v .result) w g) from n m f m' f'
 unfolding lanesFor
-vector-worked m v from n f m' f' h t =
-    let ea = source-by (size m) (v .result) (widthOf (v .operation)) (v .items) (v .first) (h .first) in
-    let eb = source-by (size m) (v .result) (widthOf (v .operation)) (v .items) (secondOf (v .operation) (v .second)) (h .second) in
+vector-worked m v w g from n f m' f' h t =
+    let ea = source-by (size m) (v .result) w (v .items) (v .first) (h .first) in
+    let eb = source-by (size m) (v .result) w (v .items) (v .second) (h .second) in
     let ec : 8 * (v .result / 8) ≡ v .result = omega (arith, h .whole) in
     rw (ea, eb, control-by (v .control), ec) at t
 
@@ -197,14 +199,14 @@ move-ready m v n hs hn h =
 
 -- ---- a plan of each family that is ready, for n items of it and one at least
 
-pub of-vector : (m : List ℕ) (p : P.Plan) (v : VectorPlan) (n : ℕ) → p ≡ Vector v → Ready m p → n ≤ itemsOf p → 0 < n → (n ≤ v .items) × VectorPasses (size m) v
+pub of-vector : (m : List ℕ) (v : VectorPlan) (w : ℕ) (f : ℕ → ℕ → Made) (n : ℕ) → Ready m (vectors v w f) → n ≤ v .items → 0 < n → VectorPasses (size m) w v
 unfolding itemsOf
-of-vector m p v n e h le h0 = (rw e at le, rw e at (h .accepted (omega arith)))
+of-vector m v w f n h le h0 = h .accepted (omega arith)
 
-pub of-bits : (m : List ℕ) (p : P.Plan) (b : BitPlan) (n : ℕ) → p ≡ Bits b → Ready m p → n ≤ itemsOf p → 0 < n → (n ≤ bitItems (b .rule) (b .runs)) × BitsPass (size m) b
+pub of-bits : (m : List ℕ) (b : BitPlan) (n : ℕ) → Ready m (bitRuns b) → n ≤ itemsOf (bitRuns b) → 0 < n → (n ≤ bitItems (b .rule) (b .runs)) × BitsPass (size m) b
 unfolding itemsOf
-of-bits m p b n e h le h0 = (rw e at le, rw e at (h .accepted (omega arith)))
+of-bits m b n h le h0 = (le, h .accepted (omega arith))
 
-pub of-move : (m : List ℕ) (p : P.Plan) (v : MovePlan) (n : ℕ) → p ≡ Move v → Ready m p → n ≤ itemsOf p → 0 < n → (n ≤ v .items) × MovePasses (size m) v
+pub of-move : (m : List ℕ) (v : MovePlan) (n : ℕ) → Ready m (byteMove v) → n ≤ itemsOf (byteMove v) → 0 < n → (n ≤ v .items) × MovePasses (size m) v
 unfolding itemsOf
-of-move m p v n e h le h0 = (rw e at le, rw e at (h .accepted (omega arith)))
+of-move m v n h le h0 = (le, h .accepted (omega arith))

@@ -17,9 +17,12 @@ use Rattle.instructions.specs.declared.items.SecondBits.{SecondBits}
 use Rattle.instructions.specs.declared.items.SecondBits.the-variants.{From, Zeros}
 use Rattle.instructions.specs.declared.items.BitPlan.{BitPlan}
 use Rattle.instructions.specs.declared.items.MovePlan.{MovePlan}
-use Rattle.instructions.specs.declared.items.Plan as P
-use Rattle.instructions.specs.declared.items.Plan.the-variants.{Vector, Bits, Move}
-use Rattle.instructions.specs.Plan.{widthOf, secondOf, takenBy, bitItems, itemsOf}
+use Rattle.fields.specs.Memory.{Aligned}
+use Rattle.instructions.specs.declared.operands.Operands.{Operands}
+use Rattle.instructions.specs.Meanings.{toT, toHalfT, loadsByte, loadsWord, storesByte, storesWord, Meaning, unlisted, exits, acts, branches, works}
+use Rattle.instructions.specs.Operands.{meaningIn}
+use Rattle.instructions.specs.Scalars.{byteAt, wordAt}
+use Rattle.instructions.specs.Plan.{takenBy, bitItems, Plan, vectors, bitRuns, byteMove, itemsOf}
 
 -- 01, numbers 10 and 11: the n bits at a are in memory and share none with the k bits at c; a field "that nothing is read from is empty and is not checked".
 abbrev pub Away : ℕ → ℕ → ℕ → ℕ → ℕ → Type 0
@@ -42,13 +45,13 @@ abbrev pub ControlPasses : ℕ → ℕ → ℕ → ℕ → Control → Type 0
 ControlPasses L c w n Every = Unit {0}
 ControlPasses L c w n (Where z ones) = (z + n ≤ L) × Apart c (n * w) z n
 
--- 01, numbers 8, 10 and 11, of a vector's result and of each field that it reads.
-pub record VectorPasses (L : ℕ) (v : VectorPlan) : Type 0 where
+-- 01, numbers 8, 10 and 11, of a vector's result, of items of w bits, and of each field that it reads.
+pub record VectorPasses (L w : ℕ) (v : VectorPlan) : Type 0 where
   pub whole : v .result % 8 ≡ 0
-  pub upto : v .result + v .items * widthOf (v .operation) ≤ L
-  pub first : SourcePasses L (v .result) (widthOf (v .operation)) (v .items) (v .first)
-  pub second : SourcePasses L (v .result) (widthOf (v .operation)) (v .items) (secondOf (v .operation) (v .second))
-  pub control : ControlPasses L (v .result) (widthOf (v .operation)) (v .items) (v .control)
+  pub upto : v .result + v .items * w ≤ L
+  pub first : SourcePasses L (v .result) w (v .items) (v .first)
+  pub second : SourcePasses L (v .result) w (v .items) (v .second)
+  pub control : ControlPasses L (v .result) w (v .items) (v .control)
 
 -- 01, below the table: "from its base to the last bit read if every item were stored"; an address has 48 bits.
 abbrev pub SecondPasses : ℕ → ℕ → ℕ → ℕ → SecondBits → Type 0
@@ -70,13 +73,29 @@ pub record MovePasses (L : ℕ) (v : MovePlan) : Type 0 where
   pub source : Away L (v .result) (v .items * 8) (v .source) (min (v .items) (v .length) * 8)
 
 -- 01, numbers 8 to 11, of any instruction with items.
-abbrev pub Accepted : ℕ → P.Plan → Type 0
-Accepted L (Vector v) = VectorPasses L v
-Accepted L (Bits b) = BitsPass L b
-Accepted L (Move v) = MovePasses L v
+abbrev pub Accepted : ℕ → Plan → Type 0
+Accepted L (vectors v w f) = VectorPasses L w v
+Accepted L (bitRuns b) = BitsPass L b
+Accepted L (byteMove v) = MovePasses L v
 
 -- What the work asks: memory as 01 lends it, and an instruction that passes, unless it has no items, which "skips 8 to 11".
-pub record Ready (m : List ℕ) (p : P.Plan) : Type 0 where
+pub record Ready (m : List ℕ) (p : Plan) : Type 0 where
   pub small : length m ≤ 65536
   pub whole : length m % 8 ≡ 0
   pub accepted : 0 < itemsOf p → Accepted (size m) p
+
+-- What the step of any other asks: 01, numbers 8 and 10, of the address of a load or a store.
+abbrev pub ReachedBy : Meaning → Operands → List ℕ → Type 0
+ReachedBy unlisted o m = Unit {0}
+ReachedBy exits o m = Unit {0}
+ReachedBy (acts (toT f)) o m = Unit {0}
+ReachedBy (acts (toHalfT f)) o m = Unit {0}
+ReachedBy (acts loadsByte) o m = Aligned m (byteAt o .0) 8
+ReachedBy (acts loadsWord) o m = Aligned m (wordAt o .0) 64
+ReachedBy (acts storesByte) o m = Aligned m (byteAt o .0) 8
+ReachedBy (acts storesWord) o m = Aligned m (wordAt o .0) 64
+ReachedBy (branches c) o m = Unit {0}
+ReachedBy (works k) o m = Unit {0}
+
+unfoldable pub Reached : ℕ → Operands → List ℕ → Type 0
+Reached w o m = ReachedBy (meaningIn w) o m

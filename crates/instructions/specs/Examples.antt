@@ -16,20 +16,20 @@ use Rattle.instructions.specs.Items.{Worked, worked}
 use Rattle.instructions.specs.Instruction.{countOf, wholeOf}
 
 -- 01, Examples: what a row has.
-pub data Row : Type 0 where
-  contracts : ℕ → ℕ → ℕ → ℕ → Row  -- 76, 77: the code, R, the half word that T becomes, the flags
-  rounds : ℕ → ℕ → ℕ → ℕ → Row  -- 70, 71, 72: the code, R, the word that T becomes, the flags
-  shifts : ℕ → ℕ → ℕ → Row  -- 8A: the items A, B and C
-  gathers : ℕ → ℕ → ℕ → ℕ → ℕ → ℕ → ℕ → Row  -- 14, 15, 16: the code, R's and S's bits from the left of a byte, r, s, n, T's bits likewise
-  branches : ℕ → ℕ → ℕ → Bool → Row  -- B0, B3: the word, A, C, taken or not
+pub data Example : Type 0 where
+  ofContract : ℕ → ℕ → ℕ → ℕ → Example  -- 76, 77: the code, R, the half word that T becomes, the flags
+  ofRounding : ℕ → ℕ → ℕ → ℕ → Example  -- 70, 71, 72: the code, R, the word that T becomes, the flags
+  ofShift : ℕ → ℕ → ℕ → Example  -- 8A: the items A, B and C
+  ofBits : ℕ → ℕ → ℕ → ℕ → ℕ → ℕ → ℕ → Example  -- 14, 15, 16: the code, R's and S's bits from the left of a byte, r, s, n, T's bits likewise
+  ofBranch : ℕ → ℕ → ℕ → Bool → Example  -- B0, B3: the word, A, C, taken or not
 
 -- 01, Instruction words: what a word comes to that takes one step.
-abbrev pub acts : ℕ → List ℕ → Outcome
-acts w registers = scalarOf w (gathered w registers) 8 0
+abbrev pub outcomeAt : ℕ → List ℕ → Outcome
+outcomeAt w registers = scalarOf w (gathered w registers) 8 0
 
 -- 01, Steps: memory and flags after all items of a word, on the memory m.
-abbrev pub works : ℕ → List ℕ → ℕ → Worked
-works w registers m = wholeOf w (gathered w registers) 8 (countOf w (gathered w registers)) (worked m 0)
+abbrev pub workedAt : ℕ → List ℕ → ℕ → Worked
+workedAt w registers m = wholeOf w (gathered w registers) 8 (countOf w (gathered w registers)) (worked m 0)
 
 -- 01, Instruction words, format A: of a code, with R 01 and T 04.
 abbrev pub wordA : ℕ → ℕ
@@ -48,41 +48,41 @@ abbrev pub memory : ℕ → ℕ → ℕ → ℕ
 memory r s t = num (r ∷ s ∷ t ∷ 0 ∷ 0 ∷ 0 ∷ 0 ∷ 0 ∷ [])
 
 -- What a row says. 8A has G bits 3 and 4, so that A and B are registers, and one item. B0 and B3 have B 4000 and Y 3.
-abbrev pub Holds : Row → Type 0
-Holds (contracts code r t flags) = acts (wordA code) (0 ∷ r ∷ []) ≡ goesOn (HalfRegister 4 t) flags
-Holds (rounds code r t flags) = acts (wordA code) (0 ∷ r ∷ []) ≡ goesOn (Register 4 t) flags
-Holds (shifts a b c) = works 0x8A_18_00_01_00_02_00_03 (0 ∷ a ∷ b ∷ descriptor 1 0x4000 ∷ []) 0 ≡ worked c 0
-Holds (gathers code first second r s n t) =
-    works (word7 code) (0 ∷ descriptor r 0x4000 ∷ descriptor s 0x4008 ∷ descriptor n 0x4010 ∷ []) (memory first second 0) ≡ worked (memory first second t) 0
-Holds (branches w a c taken) =
-    acts w (0 ∷ a ∷ 0x4000 ∷ 0 ∷ 3 ∷ []) ≡ record { effect = Register 3 c; flags = 0; next = cond taken (Target (record { 0 = 0x4060 })) Following }
+abbrev pub Holds : Example → Type 0
+Holds (ofContract code r t flags) = outcomeAt (wordA code) (0 ∷ r ∷ []) ≡ goesOn (HalfRegister 4 t) flags
+Holds (ofRounding code r t flags) = outcomeAt (wordA code) (0 ∷ r ∷ []) ≡ goesOn (Register 4 t) flags
+Holds (ofShift a b c) = workedAt 0x8A_18_00_01_00_02_00_03 (0 ∷ a ∷ b ∷ descriptor 1 0x4000 ∷ []) 0 ≡ worked c 0
+Holds (ofBits code first second r s n t) =
+    workedAt (word7 code) (0 ∷ descriptor r 0x4000 ∷ descriptor s 0x4008 ∷ descriptor n 0x4010 ∷ []) (memory first second 0) ≡ worked (memory first second t) 0
+Holds (ofBranch w a c taken) =
+    outcomeAt w (0 ∷ a ∷ 0x4000 ∷ 0 ∷ 3 ∷ []) ≡ record { effect = Register 3 c; flags = 0; next = cond taken (Target (record { 0 = 0x4060 })) Following }
 
 -- What all rows of a table say.
-abbrev pub Each : List Row → Type 0
+abbrev pub Each : List Example → Type 0
 Each [] = Unit {0}
 Each (r ∷ rs) = Holds r × Each rs
 
 -- 01, Examples 1 to 5, 7, 9 to 14.
-abbrev pub examples : List Row
+abbrev pub examples : List Example
 examples =
-    contracts 0x76 0x0000_000001000000 0x18000001 0
-    ∷ contracts 0x76 0x0000_FFFFFFFFFFFF 0x18FFFFFF 0
-    ∷ contracts 0x77 0x0000_FFFFFFFFFFFF 0x18000000 0
-    ∷ contracts 0x77 0x0000_000000800000 0x18000001 0
-    ∷ contracts 0x77 0x0000_FFFFFF800000 0x18000000 0
-    ∷ contracts 0x77 0x0000_7FFFFFFFFFFF 0x19400000 0
-    ∷ contracts 0x76 0x0057_7FFFFFFFFFFF 0x6F7FFFFF 0
-    ∷ contracts 0x77 0x0057_7FFFFFFFFFFF 0x70000000 (flag 42 + flag 46)
-    ∷ rounds 0x70 0xFFFF_FFFFFFFFFFFD 0x0000_FFFFFFFFFFFF 0
-    ∷ rounds 0x72 0xFFFF_FFFFFFFFFFFD 0x0000_FFFFFFFFFFFF 0
-    ∷ rounds 0x71 0xFFFF_FFFFFFFFFFFD 0x0000_FFFFFFFFFFFE 0
-    ∷ shifts 0x8000000000000001 0x01 3
-    ∷ shifts 0x8000000000000001 0xFF 0xC000000000000000
-    ∷ shifts 0x8000000000000001 0x40 0x8000000000000001
-    ∷ gathers 0x14 0b10110100 0b00000000 2 1 5 0b10100_000
-    ∷ gathers 0x15 0b1011_0000 0b01_000000 2 1 6 0b100111_00
-    ∷ gathers 0x16 0b101101_00 0b010010_00 2 1 6 0b100100_00
-    ∷ branches 0xB0_00_00_00_04_02_00_03 0 0x8000_000000000000 true
-    ∷ branches 0xB3_00_00_01_04_02_00_03 0x0000_FFFFFFFFFFFF 0x0000_FFFFFFFFFFFF true
-    ∷ branches 0xB3_08_00_01_04_02_00_03 0x0000_FFFFFFFFFFFF 0x0000_FFFFFFFFFFFF false
+    ofContract 0x76 0x0000_000001000000 0x18000001 0
+    ∷ ofContract 0x76 0x0000_FFFFFFFFFFFF 0x18FFFFFF 0
+    ∷ ofContract 0x77 0x0000_FFFFFFFFFFFF 0x18000000 0
+    ∷ ofContract 0x77 0x0000_000000800000 0x18000001 0
+    ∷ ofContract 0x77 0x0000_FFFFFF800000 0x18000000 0
+    ∷ ofContract 0x77 0x0000_7FFFFFFFFFFF 0x19400000 0
+    ∷ ofContract 0x76 0x0057_7FFFFFFFFFFF 0x6F7FFFFF 0
+    ∷ ofContract 0x77 0x0057_7FFFFFFFFFFF 0x70000000 (flag 42 + flag 46)
+    ∷ ofRounding 0x70 0xFFFF_FFFFFFFFFFFD 0x0000_FFFFFFFFFFFF 0
+    ∷ ofRounding 0x72 0xFFFF_FFFFFFFFFFFD 0x0000_FFFFFFFFFFFF 0
+    ∷ ofRounding 0x71 0xFFFF_FFFFFFFFFFFD 0x0000_FFFFFFFFFFFE 0
+    ∷ ofShift 0x8000000000000001 0x01 3
+    ∷ ofShift 0x8000000000000001 0xFF 0xC000000000000000
+    ∷ ofShift 0x8000000000000001 0x40 0x8000000000000001
+    ∷ ofBits 0x14 0b10110100 0b00000000 2 1 5 0b10100_000
+    ∷ ofBits 0x15 0b1011_0000 0b01_000000 2 1 6 0b100111_00
+    ∷ ofBits 0x16 0b101101_00 0b010010_00 2 1 6 0b100100_00
+    ∷ ofBranch 0xB0_00_00_00_04_02_00_03 0 0x8000_000000000000 true
+    ∷ ofBranch 0xB3_00_00_01_04_02_00_03 0x0000_FFFFFFFFFFFF 0x0000_FFFFFFFFFFFF true
+    ∷ ofBranch 0xB3_08_00_01_04_02_00_03 0x0000_FFFFFFFFFFFF 0x0000_FFFFFFFFFFFF false
     ∷ []

@@ -1,23 +1,23 @@
--- What private functions promise: the cases of the look-up, and parts of the verdict. Assumes nothing.
+-- What private functions promise: the cases of the look-up, and parts of the verdict.
 use mathlib.Core.Path.{_≡_}
-use mathlib.Core.Bool.{Bool, true, not, _&&_, _||_}
+use mathlib.Core.Bool.{Bool, true, false, not, _&&_, _||_}
 use mathlib.Core.List.{List, [], _∷_}
 use Prim.Native.Nat.{ℕ, _%_}
-use lib.Dec.{eqb, leb}
-use lib.ListN.{drop}
+use lib.Dec.{eqb}
 use Rattle.fields.specs.declared.extents.Field.{Field}
 use Rattle.fields.specs.Extents.{aligned, inside}
 use Rattle.instructions.specs.declared.operands.Operands.{Operands}
 use Rattle.instructions.specs.declared.layout.Fields.{Fields}
+use Rattle.instructions.specs.declared.table.Kind.{Kind}
 use Rattle.instructions.specs.declared.table.Row.{Row}
 use Rattle.instructions.specs.declared.table.Found.{Found}
 use Rattle.instructions.specs.declared.table.Found.the-variants.{At, Nothing}
-use Rattle.instructions.specs.Table.{codeOf, kindOf, rows, find, found, exit, compress}
-use Rattle.instructions.specs.Operands.{rowSays}
+use Rattle.instructions.specs.Table.{Line, table, codeOf, kindOf, find}
 use Rattle.instructions.specs.Branches.{takenOf, targetOf}
-use Rattle.instructions.specs.Layout.{ofKind}
+use Rattle.fields.specs.declared.extents.Unit.the-variants.{Byte, Word}
+use Rattle.instructions.specs.Layout.{itemAt, ofKind}
 use Rattle.instructions.specs.Fetch.{unfetchedAt}
-use Rattle.instructions.specs.Verdict.{checks, first}
+use Rattle.instructions.specs.Verdict.{check, atExit, fieldChecks, first}
 
 -- N, and no x has the code k
 abbrev pub Past : {A : Type 0} → (A → ℕ) → Type 0 → List A → ℕ → Type 0
@@ -26,20 +26,33 @@ Past code N (x ∷ xs) k = Past code (N × (k ≡ code x → ⊥)) xs k
 
 -- what the cases of a look-up show: the row has the code and stands in the table, or no row has the code
 abbrev pub Stands : Found → ℕ → Type 0
-Stands (At r) k = (k ≡ codeOf r) × (At r ≡ find (codeOf r) rows)
-Stands Nothing k = Past codeOf (Unit {0}) rows k
+Stands (At r) k = (k ≡ codeOf r) × (At r ≡ find (codeOf r) table)
+Stands Nothing k = Past (λ (l : Line). l .code) (Unit {0}) table k
 
--- 1 and 8 to 11 of the list, of a word that has this row
-unfoldable pub listedOf : Row → ℕ → Operands → ℕ → ℕ
-listedOf r w o n = first (drop 4 checks) (record { p = 0; word = w; row = At r; fields = ofKind (kindOf r) w o; bytes = n })
+-- whether the instructions of a kind go by items
+abbrev pub hasItems : Kind → Bool
+hasItems Kind.Exit = false
+hasItems Kind.Register = false
+hasItems Kind.Branch = false
+hasItems Kind.LoadByte = false
+hasItems Kind.StoreByte = false
+hasItems Kind.LoadWord = false
+hasItems Kind.StoreWord = false
+hasItems Kind.Compress = true
+hasItems Kind.Merge = true
+hasItems Kind.Mask = true
+hasItems Kind.TwoSources = true
+hasItems Kind.OneSource = true
+hasItems Kind.HalfResult = true
+hasItems Kind.Move = true
 
 -- 8 to 11 of the list, of fields
 unfoldable pub refusalOf : Fields → ℕ → ℕ
-refusalOf f n = first (drop 5 checks) (record { p = 0; word = 0; row = Nothing; fields = f; bytes = n })
+refusalOf f n = first fieldChecks (record { p = 0; word = 0; row = Nothing; fields = f; bytes = n })
 
--- the kind of a code, 0 where it is not in the table
-unfoldable pub kindFor : ℕ → ℕ
-kindFor k = rowSays 0 kindOf (found k)
+-- 1 and 8 to 11 of the list, of a word that has this row
+unfoldable pub listedOf : Row → ℕ → Operands → ℕ → ℕ
+listedOf r w o n = first (check 1 atExit ∷ fieldChecks) (record { p = 0; word = w; row = At r; fields = ofKind (kindOf r) w o; bytes = n })
 
 -- 8 and 10 do not refuse a field
 abbrev pub reachedBy : Field → ℕ → Bool
@@ -49,9 +62,22 @@ reachedBy f n = aligned f && inside f n
 abbrev pub arrives : ℕ → Operands → Bool
 arrives w o = not (takenOf w o) || eqb (targetOf o .0 % 32) 0
 
--- a listed word of this kind is not refused by 1 and 8 to 11, and does not go by items
-unfoldable pub oneStepOf : ℕ → ℕ → Operands → ℕ → Bool
-oneStepOf kind w o n = (not (eqb kind exit) && eqb (refusalOf (ofKind kind w o) n) 0) && not (leb compress kind)
+-- a listed word of this kind takes one step and is not refused by 8 to 11
+unfoldable pub oneStepOf : Kind → ℕ → Operands → ℕ → Bool
+oneStepOf Kind.Exit w o n = false
+oneStepOf Kind.Register w o n = true
+oneStepOf Kind.Branch w o n = arrives w o
+oneStepOf Kind.LoadByte w o n = reachedBy (itemAt Byte o) n
+oneStepOf Kind.StoreByte w o n = reachedBy (itemAt Byte o) n
+oneStepOf Kind.LoadWord w o n = reachedBy (itemAt Word o) n
+oneStepOf Kind.StoreWord w o n = reachedBy (itemAt Word o) n
+oneStepOf Kind.Compress w o n = false
+oneStepOf Kind.Merge w o n = false
+oneStepOf Kind.Mask w o n = false
+oneStepOf Kind.TwoSources w o n = false
+oneStepOf Kind.OneSource w o n = false
+oneStepOf Kind.HalfResult w o n = false
+oneStepOf Kind.Move w o n = false
 
 -- 4 for the right half of a long word
 abbrev pub cutOff : ℕ → Bool → ℕ → Bool

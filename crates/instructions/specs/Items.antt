@@ -10,16 +10,12 @@ use lib.ListN.{length}
 use Rattle.fields.specs.Field.{field, store}
 use Rattle.fields.specs.InTurn.{items}
 use Rattle.fields.specs.Bytes.{num, size}
+use Rattle.instructions.specs.declared.items.Made.{Made}
 
 -- 01, Vectors, Bit fields, Move: what an item reads is bits of memory from one on, or a value: a register "itself", zeros for S, the literal byte.
 pub data Place : Type 0 where
   bits : ℕ → Place
   fixed : ℕ → Place
-
--- 01, table: what is made of an item's sources, with the flags that it sets.
-pub record Made : Type 0 where
-  pub item : ℕ
-  pub flags : ℕ
 
 -- 01, Steps: "one step for each result item": the places of item i, and what is made of its sources.
 pub record Shape : Type 0 where

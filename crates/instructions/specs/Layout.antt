@@ -14,9 +14,10 @@ use Rattle.fields.specs.Extents.{shiftOf, fieldOf, absentField}
 use Rattle.fields.specs.Gathers.{compressItems, mergeItems, compressR, mergeR, mergeS, maskR, maskS}
 use Rattle.instructions.specs.declared.operands.Operands.{Operands}
 use Rattle.instructions.specs.declared.layout.Fields.{Fields}
-use Rattle.instructions.specs.Operands.{foundIn, rowSays, gBit}
+use Rattle.instructions.specs.Operands.{foundIn, rowSays, gBit, R, S, T}
 use Rattle.instructions.specs.Branches.{takenOf, targetOf}
-use Rattle.instructions.specs.Table.{kindOf, branch, loadByte, storeByte, loadWord, storeWord, compress, merge, mask, twoSources, oneSource, halfResult, move}
+use Rattle.instructions.specs.declared.table.Kind.{Kind}
+use Rattle.instructions.specs.Table.{kindOf}
 
 -- ---- a register that places a field
 
@@ -32,27 +33,27 @@ abbrev pub indexed : U.Unit → ℕ → ℕ → BitAddress
 indexed u d index = record { 0 = formed d (shiftedBy (shiftOf u) index) }
 
 -- the fields of an instruction that goes nowhere
-abbrev pub fieldsAt : Field → Field → Field → Field → ℕ → Bool → Fields
-fieldsAt result first second control items short =
-    record { result = result; first = first; second = second; control = control; items = items; short = short; taken = false; target = record { 0 = 0 } }
+abbrev pub fieldsAt : Field → Field → Field → Field → Bool → Fields
+fieldsAt result first second control short =
+    record { result = result; first = first; second = second; control = control; short = short; taken = false; target = record { 0 = 0 } }
 
 -- exit, and what works on registers alone
 abbrev pub noFields : Fields
-noFields = fieldsAt absentField absentField absentField absentField 0 false
+noFields = fieldsAt absentField absentField absentField absentField false
 
 -- ---- 12, 13, 7E, 7F
 
 -- "at R plus S bytes", "at R plus S words"
 abbrev pub itemAt : U.Unit → Operands → Field
-itemAt u o = fieldOf u (indexed u (o .g) (o .x)) 1
+itemAt u o = fieldOf u (indexed u (R o) (S o)) 1
 
 -- "load (rest of T cleared) .. a byte", "load .. word T"
 abbrev pub loadAt : Field → Fields
-loadAt f = fieldsAt absentField f absentField absentField 1 false
+loadAt f = fieldsAt absentField f absentField absentField false
 
 -- "store a byte", "store word T"
 abbrev pub storeAt : Field → Fields
-storeAt f = fieldsAt f absentField absentField absentField 1 false
+storeAt f = fieldsAt f absentField absentField absentField false
 
 -- ---- vectors
 
@@ -79,14 +80,13 @@ vectorOf w o result one =
     (sourceOf (gBit 3 w) (o .a) (lengthIn (o .c)))
     (sourceOf (one || gBit 4 w) (o .b) (lengthIn (o .c)))
     (controlOf w (o .z) (lengthIn (o .c)))
-    (lengthIn (o .c))
     (shortOf (gBit 3 w) (o .a) (lengthIn (o .c)) || shortOf (one || gBit 4 w) (o .b) (lengthIn (o .c)))
 
 -- ---- bit fields
 
 -- "r, s, n are the lengths in R, S, T"
 abbrev pub runsOf : Operands → Runs
-runsOf o = record { r = lengthIn (o .g); s = lengthIn (o .x); n = lengthIn (o .a) }
+runsOf o = record { r = lengthIn (R o); s = lengthIn (S o); n = lengthIn (T o) }
 
 -- "Where low 48 of S is zero, merge and mask take zeros for S": nothing is read
 unfoldable pub zerosOf : ℕ → ℕ → Field
@@ -95,14 +95,14 @@ zerosOf d n = cond (eqb (low48 d) 0) absentField (fieldOf Bit (baseIn d) n)
 -- "compress takes R's bit": S has a length and no field
 abbrev pub compressOf : Operands → Fields
 compressOf o =
-    fieldsAt (fieldOf Bit (baseIn (o .a)) (compressItems (runsOf o)))
-    (fieldOf Bit (baseIn (o .g)) (compressR (runsOf o)))
-    absentField absentField (compressItems (runsOf o)) false
+    fieldsAt (fieldOf Bit (baseIn (T o)) (compressItems (runsOf o)))
+    (fieldOf Bit (baseIn (R o)) (compressR (runsOf o)))
+    absentField absentField false
 
 -- "Merge and mask .. take R .. else S": n items that read so many bits of R and of S
 abbrev pub wovenOf : Operands → ℕ → ℕ → ℕ → Fields
 wovenOf o n r s =
-    fieldsAt (fieldOf Bit (baseIn (o .a)) n) (fieldOf Bit (baseIn (o .g)) r) (zerosOf (o .x) s) absentField n false
+    fieldsAt (fieldOf Bit (baseIn (T o)) n) (fieldOf Bit (baseIn (R o)) r) (zerosOf (S o) s) absentField false
 
 -- "merge reads R bit .. or S bit ..": to the last bit read
 abbrev pub mergeOf : Operands → Fields
@@ -119,32 +119,32 @@ abbrev pub moveOf : Operands → Fields
 moveOf o =
     fieldsAt (fieldOf Byte (indexed Byte (o .c) (o .z)) (lengthIn (o .c)))
     (fieldOf Byte (indexed Byte (o .a) (o .x)) (min (lengthIn (o .a)) (lengthIn (o .c))))
-    absentField absentField (lengthIn (o .c)) false
+    absentField absentField false
 
 -- ---- compare and branch
 
 -- no field; where it goes to if it is taken
 abbrev pub branchOf : ℕ → Operands → Fields
 branchOf w o =
-    record { result = absentField; first = absentField; second = absentField; control = absentField; items = 0; short = false; taken = takenOf w o; target = targetOf o }
+    record { result = absentField; first = absentField; second = absentField; control = absentField; short = false; taken = takenOf w o; target = targetOf o }
 
 -- ---- by what the table says that the designators mean
 
-unfoldable pub ofKind : ℕ → ℕ → Operands → Fields
-ofKind kind w o =
-    cond (eqb kind branch) (branchOf w o)
-    (cond (eqb kind loadByte) (loadAt (itemAt Byte o))
-    (cond (eqb kind storeByte) (storeAt (itemAt Byte o))
-    (cond (eqb kind loadWord) (loadAt (itemAt Word o))
-    (cond (eqb kind storeWord) (storeAt (itemAt Word o))
-    (cond (eqb kind compress) (compressOf o)
-    (cond (eqb kind merge) (mergeOf o)
-    (cond (eqb kind mask) (maskOf o)
-    (cond (eqb kind twoSources) (vectorOf w o (resultOf Word o) false)
-    (cond (eqb kind oneSource) (vectorOf w o (resultOf Word o) true)
-    (cond (eqb kind halfResult) (vectorOf w o (resultOf HalfWord o) true)
-    (cond (eqb kind move) (moveOf o)
-    noFields)))))))))))
+unfoldable pub ofKind : Kind → ℕ → Operands → Fields
+ofKind Kind.Exit w o = noFields
+ofKind Kind.Register w o = noFields
+ofKind Kind.Branch w o = branchOf w o
+ofKind Kind.LoadByte w o = loadAt (itemAt Byte o)
+ofKind Kind.StoreByte w o = storeAt (itemAt Byte o)
+ofKind Kind.LoadWord w o = loadAt (itemAt Word o)
+ofKind Kind.StoreWord w o = storeAt (itemAt Word o)
+ofKind Kind.Compress w o = compressOf o
+ofKind Kind.Merge w o = mergeOf o
+ofKind Kind.Mask w o = maskOf o
+ofKind Kind.TwoSources w o = vectorOf w o (resultOf Word o) false
+ofKind Kind.OneSource w o = vectorOf w o (resultOf Word o) true
+ofKind Kind.HalfResult w o = vectorOf w o (resultOf HalfWord o) true
+ofKind Kind.Move w o = moveOf o
 
 -- an instruction's fields, from its word and operands alone
 unfoldable pub fieldsOf : ℕ → Operands → Fields

@@ -11,18 +11,10 @@ use Rattle.fields.specs.Slot.{get}
 use Rattle.fields.specs.Field.{field, Apart}
 use Rattle.fields.specs.Bytes.{num, size}
 use Rattle.fields.specs.Memory.{Kept}
-use Rattle.numbers.specs.declared.flags.WordResult.{WordResult}
-use Rattle.numbers.specs.Flags.{wordResult}
-use Rattle.numbers.specs.Words.{sumOf, differenceOf}
-use Rattle.numbers.specs.Shift.{shiftOf}
-use Rattle.numbers.specs.Whole.{truncateOf, floorOf, ceilingOf}
-use Rattle.numbers.specs.Contract.{contractOf}
 use Rattle.instructions.specs.declared.items.Source.{Source}
 use Rattle.instructions.specs.declared.items.Source.the-variants.{Field, Value}
 use Rattle.instructions.specs.declared.items.Control.{Control}
 use Rattle.instructions.specs.declared.items.Control.the-variants.{Every, Where}
-use Rattle.instructions.specs.declared.items.Operation.{Operation}
-use Rattle.instructions.specs.declared.items.Operation.the-variants.{Add, Subtract, Shift, Truncate, Floor, Ceiling, Contract, RoundedContract, Transmit}
 use Rattle.instructions.specs.declared.items.VectorPlan.{VectorPlan}
 use Rattle.instructions.specs.declared.items.Rule.{Rule}
 use Rattle.instructions.specs.declared.items.Rule.the-variants.{Compress, Merge, Mask}
@@ -34,8 +26,11 @@ use Rattle.instructions.specs.declared.bitruns.Cursor.{Cursor}
 use Rattle.instructions.specs.declared.lanes.Lane.{Lane}
 use Rattle.instructions.specs.declared.lanes.Gating.{Gating}
 use Rattle.instructions.specs.declared.lanes.Lanes.{Lanes}
-use Rattle.instructions.specs.Items.{Place, bits, fixed, Made, Shape, Turned}
-use Rattle.instructions.specs.Plan.{vector, secondOf, madeWord, madeHalf}
+use Rattle.instructions.specs.declared.items.Made.{Made}
+use Rattle.instructions.specs.Meanings.{plain, gathers, eachOfAB, eachOfA, halfOfA, moves, Meaning, unlisted, exits, acts, branches, works}
+use Rattle.instructions.specs.Table.{meaningOf}
+use Rattle.instructions.specs.Items.{Place, bits, fixed, Shape, Turned}
+use Rattle.instructions.specs.Plan.{vector}
 
 -- ---- vectors
 
@@ -57,17 +52,13 @@ controlBy some z = cond some (Where (z .bit) (eqb (z .sense) 1)) Every
 
 -- a vector's plan by plain numbers, and back
 unfoldable pub lanesFor : VectorPlan → Lanes
-lanesFor v = record { a = laneOf (v .first); b = laneOf (secondOf (v .operation) (v .second)); z = gatingOf (v .control); c = v .result / 8 }
+lanesFor v = record { a = laneOf (v .first); b = laneOf (v .second); z = gatingOf (v .control); c = v .result / 8 }
 
 abbrev pub laned : (ℕ → ℕ → Made) → ℕ → Bool → Bool → Bool → Lane → Lane → Gating → ℕ → Shape
 laned g w fa fb fz a b z c = vector (sourceBy fa a) (sourceBy fb b) (controlBy fz z) (8 * c) w g
 
 abbrev pub lanesOf : (ℕ → ℕ → Made) → ℕ → Lanes → Shape
 lanesOf g w at = laned g w (at .a .field) (at .b .field) (at .z .some) (at .a) (at .b) (at .z) (at .c)
-
--- no source
-abbrev pub noLane : Lane
-noLane = record { field = false; byte = 0; value = 0 }
 
 -- n items of k bytes at byte c, their sources and their control bits lie in m
 pub record InReach (m : List ℕ) (fa fb fz : Bool) (a b : Lane) (z : Gating) (c k n : ℕ) : Type 0 where
@@ -82,33 +73,54 @@ pub record InReach (m : List ℕ) (fa fb fz : Bool) (a b : Lane) (z : Gating) (c
 abbrev pub LanesReach : List ℕ → Lanes → ℕ → ℕ → Type 0
 LanesReach m at k n = InReach m (at .a .field) (at .b .field) (at .z .some) (at .a) (at .b) (at .z) (at .c) k n
 
--- half words are made of one source
-abbrev pub Suited : Operation → Lanes → Type 0
-Suited Add at = Unit {0}
-Suited Subtract at = Unit {0}
-Suited Shift at = Unit {0}
-Suited Truncate at = Unit {0}
-Suited Floor at = Unit {0}
-Suited Ceiling at = Unit {0}
-Suited Contract at = at .b ≡ noLane
-Suited RoundedContract at = at .b ≡ noLane
-Suited Transmit at = Unit {0}
+-- what the vector of a function makes of two words, and how wide its items are; of no other function is either asked
+abbrev pub makesBy : Meaning → ℕ → ℕ → Made
+makesBy unlisted x y = plain 0
+makesBy exits x y = plain 0
+makesBy (acts a) x y = plain 0
+makesBy (branches c) x y = plain 0
+makesBy (works (gathers rule)) x y = plain 0
+makesBy (works (eachOfAB f)) x y = f x y
+makesBy (works (eachOfA f)) x y = f x
+makesBy (works (halfOfA f)) x y = f x
+makesBy (works moves) x y = plain 0
 
--- what the vector of a function code makes of two words
-abbrev pub wordOf : ℕ → ℕ → ℕ → WordResult
-wordOf code x y =
-    cond (eqb code 0x83) (wordResult (sumOf x y) 0)
-    (cond (eqb code 0x87) (wordResult (differenceOf x y) 0)
-    (cond (eqb code 0x8A) (wordResult (shiftOf x y) 0)
-    (cond (eqb code 0x90) (truncateOf x)
-    (cond (eqb code 0x91) (floorOf x)
-    (cond (eqb code 0x92) (ceilingOf x) (wordResult x 0))))))
+abbrev pub widthBy : Meaning → ℕ
+widthBy unlisted = 0
+widthBy exits = 0
+widthBy (acts a) = 0
+widthBy (branches c) = 0
+widthBy (works (gathers rule)) = 0
+widthBy (works (eachOfAB f)) = 64
+widthBy (works (eachOfA f)) = 64
+widthBy (works (halfOfA f)) = 32
+widthBy (works moves) = 0
 
-abbrev pub wordsOf : ℕ → ℕ → ℕ → Made
-wordsOf code x y = madeWord (wordOf code x y)
+-- whether it is made of A alone
+abbrev pub singleBy : Meaning → Bool
+singleBy unlisted = false
+singleBy exits = false
+singleBy (acts a) = false
+singleBy (branches c) = false
+singleBy (works (gathers rule)) = false
+singleBy (works (eachOfAB f)) = false
+singleBy (works (eachOfA f)) = true
+singleBy (works (halfOfA f)) = true
+singleBy (works moves) = false
 
-abbrev pub halvesOf : Bool → ℕ → ℕ → Made
-halvesOf rounded x y = madeHalf (contractOf rounded x)
+unfoldable pub makesAt : ℕ → ℕ → ℕ → Made
+makesAt code = makesBy (meaningOf code)
+
+unfoldable pub widthAt : ℕ → ℕ
+widthAt code = widthBy (meaningOf code)
+
+unfoldable pub singleAt : ℕ → Bool
+singleAt code = singleBy (meaningOf code)
+
+-- a function code of a vector, and lanes with a field for B only where B is a source
+pub record Suited (code : ℕ) (at : Lanes) : Type 0 where
+  pub some : 0 < widthAt code
+  pub alone : singleAt code ≡ true → at .b .field ≡ false
 
 -- go is 1 where the control bit has the sense asked, else 0
 pub record Gate (go bit sense : ℕ) : Type 0 where

@@ -9,7 +9,8 @@ use Rattle.instructions.specs.declared.operands.Operands.{Operands}
 use Rattle.instructions.specs.declared.table.Row.{Row}
 use Rattle.instructions.specs.declared.table.Found.{Found}
 use Rattle.instructions.specs.declared.table.Found.the-variants.{At, Nothing}
-use Rattle.instructions.specs.Table.{found}
+use Rattle.instructions.specs.Meanings.{Meaning}
+use Rattle.instructions.specs.Table.{found, meaningOf}
 
 -- "F G X A Y B Z C": F, the function
 abbrev pub codeIn : ℕ → ℕ
@@ -19,6 +20,10 @@ codeIn w = field 64 0 8 w
 abbrev pub foundIn : ℕ → Found
 foundIn w = found (codeIn w)
 
+-- what its function means
+abbrev pub meaningIn : ℕ → Meaning
+meaningIn w = meaningOf (codeIn w)
+
 -- what is asked of that row; `else` where there is none
 abbrev pub rowSays : {A : Type 0} → A → (Row → A) → Found → A
 rowSays else ask Nothing = else
@@ -27,6 +32,16 @@ rowSays else ask (At r) = ask r
 -- "F G X A Y B Z C": bit k of G, from the left
 abbrev pub gBit : ℕ → ℕ → Bool
 gBit k w = eqb (field 64 (8 + k) 1 w) 1
+
+-- "F R S T": what the registers R, S and T of a 32-bit word supply; they have the places of G, X and A
+abbrev pub R : Operands → ℕ
+R o = o .g
+
+abbrev pub S : Operands → ℕ
+S o = o .x
+
+abbrev pub T : Operands → ℕ
+T o = o .a
 
 -- register t; number 00 "supplies 8000 000000000000", of which "low 48" is the zero that the other 00 with a meaning supply
 unfoldable pub named : List ℕ → ℕ → ℕ

@@ -1,28 +1,23 @@
 -- A plan's items: how many there are, where each finds its sources and its control bit and puts its result, and what it makes. Assumes nothing.
-use mathlib.Core.Bool.{true, false, cond}
+use mathlib.Core.Bool.{cond}
 use Prim.Native.Nat.{ℕ, _+_, _*_}
 use lib.Dec.{ltb}
-use Rattle.numbers.specs.declared.flags.WordResult.{WordResult}
-use Rattle.numbers.specs.declared.flags.HalfWordResult.{HalfWordResult}
-use Rattle.numbers.specs.Words.{sumOf, differenceOf}
-use Rattle.numbers.specs.Shift.{shiftOf}
-use Rattle.numbers.specs.Whole.{truncateOf, floorOf, ceilingOf}
-use Rattle.numbers.specs.Contract.{contractOf}
 use Rattle.fields.specs.declared.gathers.Runs.{Runs}
 use Rattle.fields.specs.Gathers.{Taken, ofR, ofS, compress, merge, mask, compressItems, mergeItems}
 use Rattle.instructions.specs.declared.items.Source.{Source}
 use Rattle.instructions.specs.declared.items.Source.the-variants.{Field, Value}
 use Rattle.instructions.specs.declared.items.Control.{Control}
 use Rattle.instructions.specs.declared.items.Control.the-variants.{Every, Where}
-use Rattle.instructions.specs.declared.items.Operation.{Operation}
-use Rattle.instructions.specs.declared.items.Operation.the-variants.{Add, Subtract, Shift, Truncate, Floor, Ceiling, Contract, RoundedContract, Transmit}
 use Rattle.instructions.specs.declared.items.Rule.{Rule}
 use Rattle.instructions.specs.declared.items.Rule.the-variants.{Compress, Merge, Mask}
 use Rattle.instructions.specs.declared.items.SecondBits.{SecondBits}
 use Rattle.instructions.specs.declared.items.SecondBits.the-variants.{From, Zeros}
-use Rattle.instructions.specs.declared.items.Plan as P
-use Rattle.instructions.specs.declared.items.Plan.the-variants.{Vector, Bits, Move}
-use Rattle.instructions.specs.Items.{Place, bits, fixed, Made, Shape}
+use Rattle.instructions.specs.declared.items.VectorPlan.{VectorPlan}
+use Rattle.instructions.specs.declared.items.BitPlan.{BitPlan}
+use Rattle.instructions.specs.declared.items.MovePlan.{MovePlan}
+use Rattle.instructions.specs.declared.items.Made.{Made}
+use Rattle.instructions.specs.Meanings.{plain}
+use Rattle.instructions.specs.Items.{Place, bits, fixed, Shape}
 
 -- ---- vectors
 
@@ -40,52 +35,6 @@ controlBit (Where z ones) i = bits (z + i)
 abbrev pub senseOf : Control → ℕ
 senseOf Every = 1
 senseOf (Where z ones) = cond ones 1 0
-
--- 01, table: a word or a half word made, with its flags; a word that sets none.
-abbrev pub madeWord : WordResult → Made
-madeWord r = record { item = r .word; flags = r .flags }
-
-abbrev pub madeHalf : HalfWordResult → Made
-madeHalf r = record { item = r .half; flags = r .flags }
-
-abbrev pub madePlain : ℕ → Made
-madePlain w = record { item = w; flags = 0 }
-
--- 01, table: 83, 87, 8A, 90 to 92 and 96 to 98.
-abbrev pub makesOf : Operation → ℕ → ℕ → Made
-makesOf Add x y = madePlain (sumOf x y)
-makesOf Subtract x y = madePlain (differenceOf x y)
-makesOf Shift x y = madePlain (shiftOf x y)
-makesOf Truncate x y = madeWord (truncateOf x)
-makesOf Floor x y = madeWord (floorOf x)
-makesOf Ceiling x y = madeWord (ceilingOf x)
-makesOf Contract x y = madeHalf (contractOf false x)
-makesOf RoundedContract x y = madeHalf (contractOf true x)
-makesOf Transmit x y = madePlain x
-
--- 01, table: "96, 97 .. C items are half words".
-abbrev pub widthOf : Operation → ℕ
-widthOf Add = 64
-widthOf Subtract = 64
-widthOf Shift = 64
-widthOf Truncate = 64
-widthOf Floor = 64
-widthOf Ceiling = 64
-widthOf Contract = 32
-widthOf RoundedContract = 32
-widthOf Transmit = 64
-
--- 01, Vectors: G bit 4 is allowed "for 83, 87, 8A" alone; B is zero "where only A is used", and no source then.
-abbrev pub secondOf : Operation → Source → Source
-secondOf Add b = b
-secondOf Subtract b = b
-secondOf Shift b = b
-secondOf Truncate b = Value 0
-secondOf Floor b = Value 0
-secondOf Ceiling b = Value 0
-secondOf Contract b = Value 0
-secondOf RoundedContract b = Value 0
-secondOf Transmit b = Value 0
 
 -- 01, Vectors: a vector of words, its result items w bits wide.
 abbrev pub vector : Source → Source → Control → ℕ → ℕ → (ℕ → ℕ → Made) → Shape
@@ -114,7 +63,7 @@ taken c w from =
       unit = w;
       result = c;
       width = w;
-      makes = λ x y. madePlain x;
+      makes = λ x y. plain x;
     }
 
 -- 01, Bit fields: "Where low 48 of S is zero, merge and mask take zeros for S".
@@ -139,11 +88,17 @@ byteOf a length fill i = cond (ltb i length) (bits (a + i * 8)) (fixed fill)
 
 -- ---- plans
 
+-- 01, Vectors, Bit fields, Move: where the items of an instruction are. A vector's are so many bits wide, and are made of two source items.
+pub data Plan : Type 0 where
+  vectors : VectorPlan → ℕ → (ℕ → ℕ → Made) → Plan
+  bitRuns : BitPlan → Plan
+  byteMove : MovePlan → Plan
+
 -- 01, Vectors, Bit fields, Move: the items of a plan.
-unfoldable pub shape : P.Plan → Shape
-shape (Vector v) = vector (v .first) (secondOf (v .operation) (v .second)) (v .control) (v .result) (widthOf (v .operation)) (makesOf (v .operation))
-shape (Bits b) = taken (b .result) 1 (λ j. bitOf (b .first) (b .second) (takenBy (b .rule) (b .runs) j))
-shape (Move v) = taken (v .result) 8 (byteOf (v .source) (v .length) (v .fill))
+unfoldable pub shape : Plan → Shape
+shape (vectors v w f) = vector (v .first) (v .second) (v .control) (v .result) w f
+shape (bitRuns b) = taken (b .result) 1 (λ j. bitOf (b .first) (b .second) (takenBy (b .rule) (b .runs) j))
+shape (byteMove v) = taken (v .result) 8 (byteOf (v .source) (v .length) (v .fill))
 
 -- 01, Bit fields: "Compress with r or n zero, and the others with r, s or n zero, do nothing".
 abbrev pub bitItems : Rule → Runs → ℕ
@@ -152,7 +107,7 @@ bitItems Merge t = mergeItems t
 bitItems Mask t = mergeItems t
 
 -- 01, Vectors: "The length of C governs"; Steps: "one step for each result item".
-unfoldable pub itemsOf : P.Plan → ℕ
-itemsOf (Vector v) = v .items
-itemsOf (Bits b) = bitItems (b .rule) (b .runs)
-itemsOf (Move v) = v .items
+unfoldable pub itemsOf : Plan → ℕ
+itemsOf (vectors v w f) = v .items
+itemsOf (bitRuns b) = bitItems (b .rule) (b .runs)
+itemsOf (byteMove v) = v .items

@@ -10,16 +10,15 @@ use Rattle.instructions.specs.declared.items.Source.{Source}
 use Rattle.instructions.specs.declared.items.Source.the-variants.{Field, Value}
 use Rattle.instructions.specs.declared.items.Control.{Control}
 use Rattle.instructions.specs.declared.items.Control.the-variants.{Every, Where}
-use Rattle.instructions.specs.declared.items.Operation.{Operation}
-use Rattle.instructions.specs.declared.items.Operation.the-variants.{Add, Subtract, Shift, Truncate, Floor, Ceiling, Contract, RoundedContract, Transmit}
+use Rattle.instructions.specs.declared.items.VectorPlan.{VectorPlan}
+use Rattle.instructions.specs.declared.items.BitPlan.{BitPlan}
+use Rattle.instructions.specs.declared.items.MovePlan.{MovePlan}
 use Rattle.instructions.specs.declared.items.Rule.{Rule}
-use Rattle.instructions.specs.declared.items.Rule.the-variants.{Compress, Merge, Mask}
 use Rattle.instructions.specs.declared.items.SecondBits.{SecondBits}
 use Rattle.instructions.specs.declared.items.SecondBits.the-variants.{From, Zeros}
-use Rattle.instructions.specs.declared.items.Plan as P
-use Rattle.instructions.specs.declared.items.Plan.the-variants.{Vector, Bits, Move}
-use Rattle.instructions.specs.Operands.{codeIn, gBit}
-use Rattle.instructions.specs.Table.{compress, merge, mask, twoSources, move}
+use Rattle.instructions.specs.Meanings.{plain, Work, gathers, eachOfAB, eachOfA, halfOfA, moves, Meaning, unlisted, exits, acts, branches, works}
+use Rattle.instructions.specs.Operands.{gBit, R, S, T}
+use Rattle.instructions.specs.Plan.{Plan, vectors, bitRuns, byteMove}
 use Rattle.instructions.specs.Layout.{lengthIn, indexed, runsOf}
 use Rattle.fields.specs.declared.extents.Unit.the-variants.{Byte}
 
@@ -35,63 +34,58 @@ sourceIn broadcast d = cond broadcast (Value d) (Field (placeOf (low48 d)))
 abbrev pub controlIn : ℕ → ℕ → Control
 controlIn w z = cond (eqb (field 64 48 8 w) 0) Every (Where (placeOf (low48 z)) (not (gBit 1 w)))
 
--- 01, table: 83, 87, 8A, 90 to 92, 96 to 98.
-unfoldable pub operationOf : ℕ → Operation
-operationOf code =
-    cond (eqb code 0x83) Add
-    (cond (eqb code 0x87) Subtract
-    (cond (eqb code 0x8A) Shift
-    (cond (eqb code 0x90) Truncate
-    (cond (eqb code 0x91) Floor
-    (cond (eqb code 0x92) Ceiling
-    (cond (eqb code 0x96) Contract
-    (cond (eqb code 0x97) RoundedContract Transmit)))))))
-
--- 01, Vectors: of kind, word and operands; B is a source of 83, 87 and 8A alone.
-abbrev pub vectorIn : ℕ → ℕ → Operands → P.Plan
-vectorIn kind w o =
-    Vector
-    (record {
-      operation = operationOf (codeIn w);
+-- 01, Vectors: of a word, whether B is no source, and the operands.
+abbrev pub vectorIn : Bool → ℕ → Operands → VectorPlan
+vectorIn alone w o =
+    record {
       first = sourceIn (gBit 3 w) (o .a);
-      second = sourceIn (not (eqb kind twoSources) || gBit 4 w) (o .b);
+      second = sourceIn (alone || gBit 4 w) (o .b);
       control = controlIn w (o .z);
       result = placeOf (low48 (o .c));
       items = lengthIn (o .c);
-    })
+    }
 
 -- 01, Bit fields: "Where low 48 of S is zero, merge and mask take zeros for S".
 abbrev pub secondIn : ℕ → SecondBits
 secondIn d = cond (eqb (low48 d) 0) Zeros (From (placeOf (low48 d)))
 
 -- 01, Bit fields: "r, s, n are the lengths in R, S, T".
-abbrev pub bitsIn : Rule → Operands → P.Plan
+abbrev pub bitsIn : Rule → Operands → BitPlan
 bitsIn rule o =
-    Bits
-    (record {
+    record {
       rule = rule;
-      first = placeOf (low48 (o .g));
-      second = secondIn (o .x);
-      result = placeOf (low48 (o .a));
+      first = placeOf (low48 (R o));
+      second = secondIn (S o);
+      result = placeOf (low48 (T o));
       runs = runsOf o;
-    })
+    }
 
 -- 01, Move: "Source A plus X bytes, result C plus Z bytes"; "the literal byte B".
-abbrev pub moveIn : ℕ → Operands → P.Plan
+abbrev pub moveIn : ℕ → Operands → MovePlan
 moveIn w o =
-    Move
-    (record {
+    record {
       source = placeOf (indexed Byte (o .a) (o .x) .0);
       length = lengthIn (o .a);
       fill = field 64 40 8 w;
       result = placeOf (indexed Byte (o .c) (o .z) .0);
       items = lengthIn (o .c);
-    })
+    }
 
--- The plan, by the kind that the table gives.
-unfoldable pub planAt : ℕ → ℕ → Operands → P.Plan
-planAt kind w o =
-    cond (eqb kind compress) (bitsIn Compress o)
-    (cond (eqb kind merge) (bitsIn Merge o)
-    (cond (eqb kind mask) (bitsIn Mask o)
-    (cond (eqb kind move) (moveIn w o) (vectorIn kind w o))))
+-- The plan of what goes by items. 01, Vectors: B is a source "for 83, 87, 8A" alone; table, 96, 97: "C items are half words".
+abbrev pub planBy : Work → ℕ → Operands → Plan
+planBy (gathers rule) w o = bitRuns (bitsIn rule o)
+planBy (eachOfAB f) w o = vectors (vectorIn false w o) 64 f
+planBy (eachOfA f) w o = vectors (vectorIn true w o) 64 (λ x y. f x)
+planBy (halfOfA f) w o = vectors (vectorIn true w o) 32 (λ x y. f x)
+planBy moves w o = byteMove (moveIn w o)
+
+-- The plan of a word, by what its function means. What takes one step is asked for none: items of no bits.
+abbrev pub idle : ℕ → Operands → Plan
+idle w o = vectors (vectorIn true w o) 0 (λ x y. plain 0)
+
+unfoldable pub planIn : Meaning → ℕ → Operands → Plan
+planIn unlisted w o = idle w o
+planIn exits w o = idle w o
+planIn (acts a) w o = idle w o
+planIn (branches c) w o = idle w o
+planIn (works k) w o = planBy k w o

@@ -1,6 +1,6 @@
 -- What refuses an instruction: 01's numbers 4 to 11 and 1, as an ordered list ("What a call says").
 use mathlib.Core.Bool.{Bool, true, false, cond, not, _&&_, _||_}
-use mathlib.Core.List.{List, [], _∷_}
+use mathlib.Core.List.{List, [], _∷_, _++_}
 use Prim.Native.Nat.{ℕ, _%_}
 use lib.Dec.{eqb}
 use Rattle.fields.specs.declared.extents.Field.{Field}
@@ -8,8 +8,8 @@ use Rattle.fields.specs.Extents.{aligned, inside, shares, inPlace}
 use Rattle.instructions.specs.declared.operands.Operands.{Operands}
 use Rattle.instructions.specs.declared.layout.Fields.{Fields}
 use Rattle.instructions.specs.declared.table.Found.{Found}
-use Rattle.instructions.specs.Table.{namedOf, kindOf, exit}
-use Rattle.instructions.specs.Operands.{foundIn, rowSays}
+use Rattle.instructions.specs.Table.{namedOf}
+use Rattle.instructions.specs.Operands.{codeIn, foundIn, rowSays}
 use Rattle.instructions.specs.Words.{notZero, missing}
 use Rattle.instructions.specs.Layout.{fieldsOf}
 use Rattle.instructions.specs.Fetch.{longIn, unfetchedAt}
@@ -41,8 +41,8 @@ abbrev pub noMeaning : Case → Bool
 noMeaning c = rowSays false (λ r. missing (namedOf r) (c .word)) (c .row)
 
 -- 1: "09 is at P"
-abbrev pub exits : Case → Bool
-exits c = rowSays false (λ r. eqb (kindOf r) exit) (c .row)
+abbrev pub atExit : Case → Bool
+atExit c = eqb (codeIn (c .word)) 0x09
 
 -- ---- 8 to 11: the fields
 
@@ -73,12 +73,19 @@ pub record Check : Type 0 where
 abbrev pub check : ℕ → (Case → Bool) → Check
 check n p = record { number = n; refuses = p }
 
--- "Checked in this order: .. 1 and 4 to 11 at each instruction (1 after 4; a 09 with operands is 6)"
-abbrev pub checks : List Check
-checks =
-    check 4 notInMemory ∷ check 5 notListed ∷ check 6 strayBit ∷ check 7 noMeaning ∷ check 1 exits ∷
+-- 5 to 7, which ask the word alone
+abbrev pub wordChecks : List Check
+wordChecks = check 5 notListed ∷ check 6 strayBit ∷ check 7 noMeaning ∷ []
+
+-- 8 to 11, which ask its fields
+abbrev pub fieldChecks : List Check
+fieldChecks =
     check 8 (λ c. misaligned (c .fields)) ∷ check 9 (λ c. c .fields .short) ∷
     check 10 (λ c. outside (c .fields) (c .bytes)) ∷ check 11 (λ c. overlapping (c .fields)) ∷ []
+
+-- "Checked in this order: .. 1 and 4 to 11 at each instruction (1 after 4; a 09 with operands is 6)"
+abbrev pub checks : List Check
+checks = check 4 notInMemory ∷ (wordChecks ++ (check 1 atExit ∷ fieldChecks))
 
 -- the number of the first that refuses, 0 if none does
 abbrev pub first : List Check → Case → ℕ

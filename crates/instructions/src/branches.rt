@@ -1,6 +1,8 @@
 // Compare and branch: B0 to B5.
 ghost use mathlib.Core.Path.{_≡_};
-ghost use Rattle.instructions.specs.Branches.{less, same, compared, branchSum, takenOf, targetOf, branchOf};
+ghost use Rattle.instructions.specs.Meanings.{less, same};
+ghost use Rattle.instructions.specs.Table.{meaningOf};
+ghost use Rattle.instructions.specs.Branches.{comparesBy, branchSum, takenOf, targetOf, branchOf};
 use crate::designators::designator;
 use crate::effects::Effect;
 use crate::effects::Next;
@@ -34,7 +36,7 @@ fn same(m: u64, n: u64) -> bool
 
 // EQ NE GE LT LE GT.
 fn compare(code: u64, unsigned: bool, m: u64, n: u64) -> bool
-    ensures { λ r. ⌜ r ≡ compared code unsigned m n ⌝ }
+    ensures { λ r. ⌜ r ≡ comparesBy (meaningOf code) unsigned m n ⌝ }
 {
     match code {
         0xB0 => same(m, n),

@@ -1,11 +1,11 @@
 // What an instruction comes to: its effect on memory or registers, the flags that it raises, and where control goes. One function does an effect.
-use fields::memory;
-use fields::units::BitAddress;
-use fields::units::BitCount;
 ghost use mathlib.Core.Path.{_≡_};
 ghost use lib.ListN.{length};
 ghost use Rattle.fields.specs.Field.{store};
 ghost use Rattle.instructions.specs.Effects.{halfAt, withHalf, Reaches, Applied, goesOn, nextP};
+use fields::memory;
+use fields::units::BitAddress;
+use fields::units::BitCount;
 
 // What changes. Numbers of registers are those of the word's designators.
 pub enum Effect {
@@ -77,7 +77,7 @@ fn put_half(registers: &mut [u64], number: u8, half: u32)
     registers[i] = with_half(word, number, half);
 }
 
-// The one place where memory or a register changes. What is stored lies in memory, as the verdict has shown.
+// The one step of an instruction that does not go by items. What is stored lies in memory, as the verdict has shown.
 pub fn apply(effect: Effect, memory: &mut [u8], registers: &mut [u64])
     requires { ⌜ (length (now registers) ≡ 256) × Reaches effect (now memory) ⌝ }
     ensures { λ r. ⌜ Applied effect (now (memory .entry)) (now (registers .entry)) (now (memory .exit)) (now (registers .exit)) ⌝ }

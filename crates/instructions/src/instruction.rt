@@ -13,7 +13,6 @@ ghost use Rattle.instructions.specs.Instruction.{byItems, countOf, works
 use crate::effects;
 use crate::effects::Next;
 use crate::fetch::length_of;
-use crate::items;
 use crate::items::Rule;
 use crate::layout::run_in;
 use crate::layout::runs;
@@ -21,27 +20,19 @@ use crate::operands::Operands;
 use crate::operands::code_in;
 use crate::plans;
 use crate::scalars;
+use crate::table;
+use crate::table::Found;
+use crate::works;
 use fields::units::BitAddress;
 
-// A vector, bit or move instruction. The code says so, without the table.
+// A vector, bit or move instruction.
 pub fn by_items(word: u64) -> bool
     ensures { λ r. ⌜ r ≡ byItems word ⌝ }
 {
-    match code_in(word) {
-        0x14 => true,
-        0x15 => true,
-        0x16 => true,
-        0x83 => true,
-        0x87 => true,
-        0x8A => true,
-        0x90 => true,
-        0x91 => true,
-        0x92 => true,
-        0x96 => true,
-        0x97 => true,
-        0x98 => true,
-        0xF8 => true,
-        _ => false,
+    let found = table::find(code_in(word) as u8);
+    match found {
+        Found::Nothing => false,
+        Found::At(row) => row.has_items(),
     }
 }
 
@@ -75,12 +66,13 @@ pub fn work(
     }
     let i = from as usize;
     let n = count as usize;
-    match code_in(word) {
-        0x14 => items::bits(memory, plans::bits(Rule::Compress, o), i, n, flags),
-        0x15 => items::bits(memory, plans::bits(Rule::Merge, o), i, n, flags),
-        0x16 => items::bits(memory, plans::bits(Rule::Mask, o), i, n, flags),
-        0xF8 => items::moved(memory, plans::moved(word, o), i, n, flags),
-        _ => items::vector(memory, plans::vector(word, o), i, n, flags),
+    let code = code_in(word);
+    match code {
+        0x14 => works::bits(memory, plans::bits(Rule::Compress, o), i, n, flags),
+        0x15 => works::bits(memory, plans::bits(Rule::Merge, o), i, n, flags),
+        0x16 => works::bits(memory, plans::bits(Rule::Mask, o), i, n, flags),
+        0xF8 => works::moved(memory, plans::moved(word, o), i, n, flags),
+        _ => works::vector(memory, code, plans::vector(word, o), i, n, flags),
     }
 }
 

@@ -1,17 +1,14 @@
-// The fields of an instruction, from its word and operands alone: the one place that says where they lie. The checks, the steps and what is shown of an item
-// go by it.
+// The fields of an instruction, from its word and operands alone: what the checks go by.
 ghost use mathlib.Core.Path.{_≡_};
 ghost use Prim.Native.Nat.{min, _<_};
 ghost use Rattle.fields.specs.declared.extents.Unit.the-variants.{Byte, HalfWord, Word};
-ghost use Rattle.instructions.specs.Layout.{lengthIn, baseIn, indexed, fieldsAt, noFields, itemAt, loadAt, storeAt, sourceOf, shortOf, controlOf, resultOf, vectorOf, runsOf, zerosOf, compressOf, wovenOf, mergeOf, maskOf, moveOf, branchOf, ofKind, fieldsOf};
+ghost use Rattle.instructions.specs.Layout.{lengthIn, baseIn, indexed, fieldsAt, noFields, itemAt, loadAt, storeAt, sourceOf, shortOf, controlOf, resultOf, vectorOf, runsOf, zerosOf, compressOf, wovenOf, mergeOf, maskOf, moveOf, branchOf, ofKind};
 use crate::branches::taken;
 use crate::branches::target;
 use crate::operands::Operands;
-use crate::operands::code_in;
 use crate::operands::g_bit_3;
 use crate::operands::g_bit_4;
-use crate::table;
-use crate::table::Found;
+use crate::table::Kind;
 use fields::extents::Field;
 use fields::gathers::Runs;
 use fields::units::BitAddress;
@@ -29,8 +26,6 @@ pub struct Fields {
     pub first: Field,
     pub second: Field,
     pub control: Field,
-    // The items of the result, or of what is loaded.
-    pub items: u64,
     // A vector source has fewer items than the result.
     pub short: bool,
     // The branch is taken, and goes there.
@@ -74,22 +69,14 @@ fn plus_words(d: u64, index: u64) -> BitAddress
     from.plus(count.shifted())
 }
 
-fn fields_at(
-    result: Field,
-    first: Field,
-    second: Field,
-    control: Field,
-    items: u64,
-    short: bool,
-) -> Fields
-    ensures { λ r. ⌜ r ≡ fieldsAt result first second control items short ⌝ }
+fn fields_at(result: Field, first: Field, second: Field, control: Field, short: bool) -> Fields
+    ensures { λ r. ⌜ r ≡ fieldsAt result first second control short ⌝ }
 {
     Fields {
         result: result,
         first: first,
         second: second,
         control: control,
-        items: items,
         short: short,
         taken: false,
         target: BitAddress(0),
@@ -100,7 +87,7 @@ fn no_fields() -> Fields
     ensures { λ r. ⌜ r ≡ noFields ⌝ }
 {
     let none = Field::absent();
-    fields_at(none, none, none, none, 0, false)
+    fields_at(none, none, none, none, false)
 }
 
 // 12 and 13: the byte at R plus S bytes.
@@ -121,14 +108,14 @@ fn load_at(f: Field) -> Fields
     ensures { λ r. ⌜ r ≡ loadAt f ⌝ }
 {
     let none = Field::absent();
-    fields_at(none, f, none, none, 1, false)
+    fields_at(none, f, none, none, false)
 }
 
 fn store_at(f: Field) -> Fields
     ensures { λ r. ⌜ r ≡ storeAt f ⌝ }
 {
     let none = Field::absent();
-    fields_at(f, none, none, none, 1, false)
+    fields_at(f, none, none, none, false)
 }
 
 // A vector source of n words, unless it is free of a field.
@@ -179,7 +166,7 @@ fn vector(word: u64, o: Operands, result: Field, one: bool) -> Fields
     let second = source(free_b, o.b, n);
     let stored = control(word, o.z, n);
     let less = short(free_a, o.a, n) | short(free_b, o.b, n);
-    fields_at(result, first, second, stored, n, less)
+    fields_at(result, first, second, stored, less)
 }
 
 pub fn runs(o: Operands) -> Runs
@@ -210,7 +197,7 @@ fn compress(o: Operands) -> Fields
     let to = Field::of_bits(base_in(o.a), n);
     let from = Field::of_bits(base_in(o.g), lengths.compress_r());
     let none = Field::absent();
-    fields_at(to, from, none, none, n.0, false)
+    fields_at(to, from, none, none, false)
 }
 
 // A merge or a mask of n items, which read so many bits of R and of S.
@@ -221,7 +208,7 @@ fn woven(o: Operands, n: BitCount, first_bits: BitCount, second_bits: BitCount) 
     let first = Field::of_bits(base_in(o.g), first_bits);
     let second = unless_zeros(o.x, second_bits);
     let none = Field::absent();
-    fields_at(to, first, second, none, n.0, false)
+    fields_at(to, first, second, none, false)
 }
 
 fn merge(o: Operands) -> Fields
@@ -257,7 +244,7 @@ fn moved(o: Operands) -> Fields
     let to = Field::of_bytes(plus_bytes(o.c, o.z), ByteCount(n));
     let from = Field::of_bytes(plus_bytes(o.a, o.x), ByteCount(read));
     let none = Field::absent();
-    fields_at(to, from, none, none, n, false)
+    fields_at(to, from, none, none, false)
 }
 
 fn branch(word: u64, o: Operands) -> Fields
@@ -271,39 +258,30 @@ fn branch(word: u64, o: Operands) -> Fields
         first: none,
         second: none,
         control: none,
-        items: 0,
         short: false,
         taken: goes,
         target: to,
     }
 }
 
-pub fn of_kind(kind: u8, word: u64, o: Operands) -> Fields
+// By what the table says that the designators mean.
+pub fn of_kind(kind: Kind, word: u64, o: Operands) -> Fields
     ensures { λ r. ⌜ r ≡ ofKind kind word o ⌝ }
 {
     match kind {
-        table::BRANCH => branch(word, o),
-        table::LOAD_BYTE => load_at(byte_at(o)),
-        table::STORE_BYTE => store_at(byte_at(o)),
-        table::LOAD_WORD => load_at(word_at(o)),
-        table::STORE_WORD => store_at(word_at(o)),
-        table::COMPRESS => compress(o),
-        table::MERGE => merge(o),
-        table::MASK => mask(o),
-        table::TWO_SOURCES => vector(word, o, words_at_c(o), false),
-        table::ONE_SOURCE => vector(word, o, words_at_c(o), true),
-        table::HALF_RESULT => vector(word, o, half_words_at_c(o), true),
-        table::MOVE => moved(o),
-        _ => no_fields(),
-    }
-}
-
-pub fn fields_of(word: u64, o: Operands) -> Fields
-    ensures { λ r. ⌜ r ≡ fieldsOf word o ⌝ }
-{
-    let found = table::find(code_in(word) as u8);
-    match found {
-        Found::Nothing => no_fields(),
-        Found::At(row) => of_kind(row.kind(), word, o),
+        Kind::Exit => no_fields(),
+        Kind::Register => no_fields(),
+        Kind::Branch => branch(word, o),
+        Kind::LoadByte => load_at(byte_at(o)),
+        Kind::StoreByte => store_at(byte_at(o)),
+        Kind::LoadWord => load_at(word_at(o)),
+        Kind::StoreWord => store_at(word_at(o)),
+        Kind::Compress => compress(o),
+        Kind::Merge => merge(o),
+        Kind::Mask => mask(o),
+        Kind::TwoSources => vector(word, o, words_at_c(o), false),
+        Kind::OneSource => vector(word, o, words_at_c(o), true),
+        Kind::HalfResult => vector(word, o, half_words_at_c(o), true),
+        Kind::Move => moved(o),
     }
 }

@@ -1,17 +1,22 @@
-// The listed instructions: their words, what refuses them, and what they do. The way of a word:
+// The listed instructions: their words, what refuses them, and what they do. What the layer above calls, in the way of a word:
 pub mod table; // the one constant table: a row for each function code
-pub mod words; // instruction words, read into parts and put together: 5, 6, 7
-pub mod fetch; // the word at P: 4
+pub mod words; // instruction words, read into parts and put together: refusals 5, 6, 7
+pub mod fetch; // the word at P: refusal 4
 pub mod operands; // what the registers that a word names supply
-pub mod layout; // the fields of an instruction
 pub mod verdict; // the first check that refuses it: 4 to 11 and 1
-pub mod branches; // compare and branch: B0 to B5
-pub mod scalars; // the register instructions: 12, 13, 2C to 2E, 63, 67, 70 to 72, 76 to 78, 7A to 7C, 7E, 7F
-pub mod effects; // what an instruction comes to, and the one function that does it
-pub mod items; // vectors, bit fields and moves: their items, and the work
-pub mod instruction; // an instruction as the layer above sees it
-mod bitruns; // 14, 15, 16, by runs of bits
+pub mod instruction; // an instruction whatever it is: its items, their work, the one step of any other
+// What these are made of:
 mod designators; // the designators of a word, by their places
-mod lanes; // 83, 87, 8A, 90 to 92, 96 to 98
-mod moves; // F8
-mod plans; // the plan of a vector, bit or move instruction
+mod layout; // the fields of an instruction, which the checks ask
+mod branches; // codes B0 to B5: compare and branch
+mod scalars; // what any other instruction of one step comes to: codes 12, 13, 2C to 2E, 63, 67, 70 to 72, 76 to 78, 7A to 7C, 7E, 7F
+mod effects; // what such an instruction changes, and that it is changed
+mod items; // the items of a vector, bit or move instruction: their places, and what is made of one
+mod plans; // where they are, from its word and operands
+mod works; // their work, of an instruction that the checks let pass
+mod vectors; // codes 83, 87, 8A, 90 to 92, 96 to 98
+mod lanes; // a vector by plain numbers
+mod loops; // the two loops of vectors, and what each code makes of an item
+mod forms; // a loop for each code, with control or without, with fields or values
+mod bitruns; // codes 14, 15, 16, by runs of bits
+mod moves; // code F8

@@ -1,16 +1,12 @@
 // The plan of a vector, bit or move instruction, from its word and operands.
 ghost use mathlib.Core.Path.{_≡_};
-ghost use Rattle.instructions.specs.Planned.{placeOf, sourceIn, controlIn, operationOf, vectorIn, secondIn, bitsIn, moveIn};
-ghost use Rattle.instructions.specs.Operands.{codeIn};
-ghost use Rattle.instructions.specs.Table.{twoSources};
-ghost use Rattle.instructions.specs.Inner.{kindFor};
-ghost use Rattle.instructions.specs.declared.items.Plan.the-variants.{Vector, Bits, Move};
 ghost use lib.Dec.{eqb};
+ghost use Rattle.fields.specs.Field.{field};
+ghost use Rattle.instructions.specs.Planned.{placeOf, sourceIn, controlIn, vectorIn, secondIn, bitsIn, moveIn};
 use crate::designators::designator;
 use crate::items::BitPlan;
 use crate::items::Control;
 use crate::items::MovePlan;
-use crate::items::Operation;
 use crate::items::Rule;
 use crate::items::SecondBits;
 use crate::items::Source;
@@ -20,7 +16,6 @@ use crate::layout::plus_bytes;
 use crate::layout::run_in;
 use crate::layout::runs;
 use crate::operands::Operands;
-use crate::operands::code_in;
 use crate::operands::g_bit_1;
 use crate::operands::g_bit_3;
 use crate::operands::g_bit_4;
@@ -58,43 +53,19 @@ fn control(word: u64, z: u64) -> Control
     }
 }
 
-fn operation(code: u64) -> Operation
-    ensures { λ r. ⌜ r ≡ operationOf code ⌝ }
+// Whether B is no source: 00, as it must be where only A is used.
+fn alone(word: u64) -> bool
+    ensures { λ r. ⌜ r ≡ eqb (field 64 40 8 word) 0 ⌝ }
 {
-    match code {
-        0x83 => Operation::Add,
-        0x87 => Operation::Subtract,
-        0x8A => Operation::Shift,
-        0x90 => Operation::Truncate,
-        0x91 => Operation::Floor,
-        0x92 => Operation::Ceiling,
-        0x96 => Operation::Contract,
-        0x97 => Operation::RoundedContract,
-        _ => Operation::Transmit,
-    }
-}
-
-// Whether B is a source, by the kind that the table gives.
-fn two_sources(code: u64) -> bool
-    ensures { λ r. ⌜ r ≡ eqb (kindFor code) twoSources ⌝ }
-{
-    match code {
-        0x83 => true,
-        0x87 => true,
-        0x8A => true,
-        _ => false,
-    }
+    designator(word, 16) == 0
 }
 
 pub fn vector(word: u64, o: Operands) -> VectorPlan
-    ensures { λ r. ⌜ Vector r ≡ vectorIn (kindFor (codeIn word)) word o ⌝ }
+    ensures { λ r. ⌜ r ≡ vectorIn (eqb (field 64 40 8 word) 0) word o ⌝ }
 {
-    let code = code_in(word);
-    let one_source = !two_sources(code);
     VectorPlan {
-        operation: operation(code),
         first: source(g_bit_3(word), o.a),
-        second: source(one_source | g_bit_4(word), o.b),
+        second: source(alone(word) | g_bit_4(word), o.b),
         control: control(word, o.z),
         result: place(base_in(o.c)),
         items: run_in(o.c),
@@ -113,7 +84,7 @@ fn second_bits(d: u64) -> SecondBits
 }
 
 pub fn bits(rule: Rule, o: Operands) -> BitPlan
-    ensures { λ r. ⌜ Bits r ≡ bitsIn rule o ⌝ }
+    ensures { λ r. ⌜ r ≡ bitsIn rule o ⌝ }
 {
     BitPlan {
         rule: rule,
@@ -125,7 +96,7 @@ pub fn bits(rule: Rule, o: Operands) -> BitPlan
 }
 
 pub fn moved(word: u64, o: Operands) -> MovePlan
-    ensures { λ r. ⌜ Move r ≡ moveIn word o ⌝ }
+    ensures { λ r. ⌜ r ≡ moveIn word o ⌝ }
 {
     MovePlan {
         source: place(plus_bytes(o.a, o.x)),

@@ -1,4 +1,11 @@
 // The register instructions: what each comes to, from the operands as they stood before it and, for a load, from memory.
+ghost use mathlib.Core.Path.{_≡_};
+ghost use lib.ListN.{length};
+ghost use Rattle.fields.specs.Bytes.{num};
+ghost use Rattle.fields.specs.Memory.{Aligned};
+ghost use Rattle.instructions.specs.Meanings.{plain, ofWord, ofHalf};
+ghost use Rattle.instructions.specs.Scalars.{byteAt, wordAt, toRegister, toHalfRegister, loadByteOf, storeByteOf, loadWordOf, storeWordOf, scalarOf};
+ghost use Rattle.instructions.specs.Accepted.{Reached};
 use crate::branches::branch;
 use crate::designators::designator;
 use crate::effects::Effect;
@@ -14,11 +21,6 @@ use numbers::flags::HalfWordResult;
 use numbers::flags::WordResult;
 use numbers::whole;
 use numbers::words;
-ghost use mathlib.Core.Path.{_≡_};
-ghost use lib.ListN.{length};
-ghost use Rattle.fields.specs.Bytes.{num};
-ghost use Rattle.fields.specs.Memory.{Aligned};
-ghost use Rattle.instructions.specs.Scalars.{byteAt, wordAt, toRegister, wordTo, halfTo, loadByteOf, storeByteOf, loadWordOf, storeWordOf, scalarOf, Reached};
 
 // R plus S bytes.
 pub fn byte_address(o: Operands) -> BitAddress
@@ -39,13 +41,13 @@ pub fn word_address(o: Operands) -> BitAddress
 }
 
 fn to_register(number: u8, value: u64) -> Outcome
-    ensures { λ r. ⌜ r ≡ toRegister number value ⌝ }
+    ensures { λ r. ⌜ r ≡ toRegister number (plain value) ⌝ }
 {
     Outcome::goes_on(Effect::Register { number, value }, 0)
 }
 
 fn word_to(number: u8, result: WordResult) -> Outcome
-    ensures { λ r. ⌜ r ≡ wordTo number result ⌝ }
+    ensures { λ r. ⌜ r ≡ toRegister number (ofWord result) ⌝ }
 {
     Outcome::goes_on(
         Effect::Register {
@@ -57,7 +59,7 @@ fn word_to(number: u8, result: WordResult) -> Outcome
 }
 
 fn half_to(number: u8, result: HalfWordResult) -> Outcome
-    ensures { λ r. ⌜ r ≡ halfTo number result ⌝ }
+    ensures { λ r. ⌜ r ≡ toHalfRegister number (ofHalf result) ⌝ }
 {
     Outcome::goes_on(
         Effect::HalfRegister {
@@ -68,7 +70,7 @@ fn half_to(number: u8, result: HalfWordResult) -> Outcome
     )
 }
 
-// 12.
+// Code 12.
 fn load_byte(number: u8, o: Operands, m: &[u8]) -> Outcome
     requires { ⌜ Aligned (now m) (byteAt o .0) 8 ⌝ }
     ensures { λ r. ⌜ r ≡ loadByteOf number o (length (now (m .entry))) (num (now (m .entry))) ⌝ }
@@ -77,7 +79,7 @@ fn load_byte(number: u8, o: Operands, m: &[u8]) -> Outcome
     to_register(number, memory::read_byte(m, at))
 }
 
-// 13.
+// Code 13.
 fn store_byte(o: Operands) -> Outcome
     ensures { λ r. ⌜ r ≡ storeByteOf o ⌝ }
 {
@@ -86,7 +88,7 @@ fn store_byte(o: Operands) -> Outcome
     Outcome::goes_on(Effect::Byte { at, value }, 0)
 }
 
-// 7E.
+// Code 7E.
 fn load_word(number: u8, o: Operands, m: &[u8]) -> Outcome
     requires { ⌜ Aligned (now m) (wordAt o .0) 64 ⌝ }
     ensures { λ r. ⌜ r ≡ loadWordOf number o (length (now (m .entry))) (num (now (m .entry))) ⌝ }
@@ -95,7 +97,7 @@ fn load_word(number: u8, o: Operands, m: &[u8]) -> Outcome
     to_register(number, memory::read_word(m, at))
 }
 
-// 7F.
+// Code 7F.
 fn store_word(o: Operands) -> Outcome
     ensures { λ r. ⌜ r ≡ storeWordOf o ⌝ }
 {
@@ -103,7 +105,7 @@ fn store_word(o: Operands) -> Outcome
     Outcome::goes_on(Effect::Word { at, value: o.a }, 0)
 }
 
-// By the code. Any other has no effect.
+// What an instruction of one step comes to, by its code. Any other has no effect here.
 pub fn scalar(word: u64, o: Operands, m: &[u8]) -> Outcome
     requires { ⌜ Reached word o (now m) ⌝ }
     ensures { λ r. ⌜ r ≡ scalarOf word o (length (now (m .entry))) (num (now (m .entry))) ⌝ }

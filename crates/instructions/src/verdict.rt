@@ -5,7 +5,7 @@ ghost use Rattle.fields.specs.Bytes.{num};
 ghost use Rattle.instructions.specs.Fetch.{fetchOf};
 ghost use Rattle.instructions.specs.Verdict.{misaligned, outside, clash, overlapping, verdictOf};
 ghost use Rattle.instructions.specs.Inner.{refusalOf, listedOf, reachedBy, arrives, oneStepOf, cutOff};
-ghost use Rattle.instructions.specs.Instruction.{oneStep};
+ghost use Rattle.instructions.specs.Instruction.{oneStep, mayWork};
 use crate::branches::taken;
 use crate::branches::target;
 use crate::fetch::is_long;
@@ -15,8 +15,8 @@ use crate::layout::byte_at;
 use crate::layout::of_kind;
 use crate::layout::word_at;
 use crate::operands::Operands;
-use crate::table;
-use crate::table::EXIT;
+use crate::operands::code_in;
+use crate::table::Kind;
 use crate::table::Row;
 use crate::words::Decoded;
 use crate::words::decode;
@@ -24,7 +24,7 @@ use fields::extents::Field;
 use fields::units::BitAddress;
 use fields::units::ByteCount;
 
-// 8. Bits need no alignment, so the control field is not asked.
+// Refusal 8. Bits need no alignment, so the control field is not asked.
 fn misaligned(f: Fields) -> bool
     ensures { λ r. ⌜ r ≡ misaligned f ⌝ }
 {
@@ -35,7 +35,7 @@ fn misaligned(f: Fields) -> bool
     (f.taken & (target % 32 != 0)) | (!result.aligned() | (!first.aligned() | !second.aligned()))
 }
 
-// 10.
+// Refusal 10.
 fn outside(f: Fields, lent: ByteCount) -> bool
     ensures { λ r. ⌜ r ≡ outside f (lent .0) ⌝ }
 {
@@ -55,7 +55,7 @@ fn clash(result: Field, source: Field) -> bool
     false
 }
 
-// 11.
+// Refusal 11.
 fn overlapping(f: Fields) -> bool
     ensures { λ r. ⌜ r ≡ overlapping f ⌝ }
 {
@@ -86,11 +86,10 @@ fn refusal(f: Fields, lent: ByteCount) -> u64
 fn listed(row: Row, word: u64, o: Operands, lent: ByteCount) -> u64
     ensures { λ r. ⌜ r ≡ listedOf row word o (lent .0) ⌝ }
 {
-    let kind = row.kind();
-    if kind == EXIT {
+    if code_in(word) == 0x09 {
         return 1;
     }
-    refusal(of_kind(kind, word, o), lent)
+    refusal(of_kind(row.kind(), word, o), lent)
 }
 
 // The first that applies of 4, 5, 6, 7, 1, 8, 9, 10, 11; 0 if none does.
@@ -114,6 +113,25 @@ pub fn verdict(p: BitAddress, word: u64, o: Operands, lent: ByteCount) -> u64
     }
 }
 
+// No check refuses the word, and it goes by items.
+pub fn may_work(p: BitAddress, word: u64, o: Operands, lent: ByteCount) -> bool
+    ensures { λ r. ⌜ r ≡ mayWork (p .0) word o (lent .0) ⌝ }
+{
+    let decoded = decode(word);
+    match decoded {
+        Decoded::Refused(_) => false,
+        Decoded::Listed(row) => {
+            if !row.has_items() {
+                return false;
+            }
+            if unfetched(p, row.long(), lent) {
+                return false;
+            }
+            refusal(of_kind(row.kind(), word, o), lent) == 0
+        }
+    }
+}
+
 // The one field of a load or a store passes 8 and 10.
 fn reached(f: Field, lent: ByteCount) -> bool
     ensures { λ r. ⌜ r ≡ reachedBy f (lent .0) ⌝ }
@@ -130,17 +148,24 @@ fn arrives(word: u64, o: Operands) -> bool
 }
 
 // A listed word of this kind takes one step, and passes 8 to 11.
-fn one_step_of(kind: u8, word: u64, o: Operands, lent: ByteCount) -> bool
+fn one_step_of(kind: Kind, word: u64, o: Operands, lent: ByteCount) -> bool
     ensures { λ r. ⌜ r ≡ oneStepOf kind word o (lent .0) ⌝ }
 {
     match kind {
-        table::REGISTER => true,
-        table::BRANCH => arrives(word, o),
-        table::LOAD_BYTE => reached(byte_at(o), lent),
-        table::STORE_BYTE => reached(byte_at(o), lent),
-        table::LOAD_WORD => reached(word_at(o), lent),
-        table::STORE_WORD => reached(word_at(o), lent),
-        _ => false,
+        Kind::Exit => false,
+        Kind::Register => true,
+        Kind::Branch => arrives(word, o),
+        Kind::LoadByte => reached(byte_at(o), lent),
+        Kind::StoreByte => reached(byte_at(o), lent),
+        Kind::LoadWord => reached(word_at(o), lent),
+        Kind::StoreWord => reached(word_at(o), lent),
+        Kind::Compress => false,
+        Kind::Merge => false,
+        Kind::Mask => false,
+        Kind::TwoSources => false,
+        Kind::OneSource => false,
+        Kind::HalfResult => false,
+        Kind::Move => false,
     }
 }
 
@@ -164,7 +189,7 @@ pub fn one_step(memory: &[u8], p: BitAddress, word: u64, o: Operands) -> bool
     match decoded {
         Decoded::Refused(_) => false,
         Decoded::Listed(row) => {
-            if cut_off(p, is_long(word), lent) {
+            if cut_off(p, row.long(), lent) {
                 return false;
             }
             one_step_of(row.kind(), word, o, lent)

@@ -5,10 +5,9 @@ ghost use Rattle.runs.specs.Records.{flagsRight, placeRight, betweenTwo,
 ghost use Rattle.runs.specs.Calls.{lengthsRight};
 ghost use Rattle.runs.specs.Inner.{holding, goesOn};
 use crate::records::Record;
-use crate::typed::verdict;
+use crate::typed::may_work;
 use fields::memory::lent_length_is_right;
 use fields::units::ByteCount;
-use instructions::instruction::by_items;
 use instructions::instruction::count;
 use instructions::operands::Operands;
 use instructions::operands::gather;
@@ -56,10 +55,7 @@ fn holding(rec: Record, o: Operands, bytes: u64) -> bool
     ensures { λ r. ⌜ r ≡ holding bytes o rec ⌝ }
 {
     let word = rec.word;
-    if !by_items(word) {
-        return false;
-    }
-    if verdict(rec.p, word, o, bytes) != 0 {
+    if !may_work(rec.p, word, o, bytes) {
         return false;
     }
     if rec.items < 1 {

@@ -4,7 +4,7 @@ ghost use lib.ListN.{length};
 ghost use Rattle.fields.specs.Bytes.{num};
 ghost use Rattle.instructions.specs.Fetch.{fetchOf, lengthOf};
 ghost use Rattle.instructions.specs.Verdict.{verdictOf};
-ghost use Rattle.instructions.specs.Instruction.{oneStep};
+ghost use Rattle.instructions.specs.Instruction.{oneStep, mayWork};
 use fields::units::BitAddress;
 use fields::units::ByteCount;
 use instructions::operands::Operands;
@@ -21,6 +21,13 @@ pub fn verdict(p: u64, word: u64, o: Operands, bytes: u64) -> u64
     ensures { λ r. ⌜ r ≡ verdictOf p word o bytes ⌝ }
 {
     instructions::verdict::verdict(BitAddress(p), word, o, ByteCount(bytes))
+}
+
+// No check refuses it, and it goes by items.
+pub fn may_work(p: u64, word: u64, o: Operands, bytes: u64) -> bool
+    ensures { λ r. ⌜ r ≡ mayWork p word o bytes ⌝ }
+{
+    instructions::verdict::may_work(BitAddress(p), word, o, ByteCount(bytes))
 }
 
 // How far P moves past it.

@@ -1,7 +1,8 @@
--- `instructions::branches::compare`: each code's arm is its case of the definition; any other code is none of the six. Assumes nothing.
+-- `instructions::branches::compare`: each code's arm is how its line of the table compares; no other code's line does.
+use mathlib.Core.Bool.{not}
+use mathlib.Core.Path.{ap}
 use borrow.Author.Needs.{needs}
-use borrow.Author.Tests.{ne-eqb}
-use Rattle.instructions.specs.Branches.{compared}
+use Rattle.instructions.proofs.ByCode.{compared, not-compared}
 use Rattle.instructions.proofs.branches.compare.Statement.{statement}
 use Rattle.instructions.proofs.branches.compare.Tie as tie
 
@@ -24,32 +25,25 @@ less-requires-4 : tie.Need-less-requires-4
 less-requires-4 c κs = search needs
 
 returns : tie.Need-returns
-unfolding compared
-returns c = rw (c .before .match .keys1, c .same .ensures)
+returns c = compared _ _ _ (c .before .match .keys1) (c .same .ensures)
 
 returns-2 : tie.Need-returns-2
-unfolding compared
-returns-2 c = rw (c .before .match .keys2, c .same2 .ensures)
+returns-2 c = compared _ _ _ (c .before .match .keys2) (ap not (c .same2 .ensures))
 
 returns-3 : tie.Need-returns-3
-unfolding compared
-returns-3 c = rw (c .before .match .keys3, c .less .ensures)
+returns-3 c = compared _ _ _ (c .before .match .keys3) (ap not (c .less .ensures))
 
 returns-4 : tie.Need-returns-4
-unfolding compared
-returns-4 c = rw (c .before .match .keys4, c .less2 .ensures)
+returns-4 c = compared _ _ _ (c .before .match .keys4) (c .less2 .ensures)
 
 returns-5 : tie.Need-returns-5
-unfolding compared
-returns-5 c = rw (c .before .match .keys5, c .less3 .ensures)
+returns-5 c = compared _ _ _ (c .before .match .keys5) (ap not (c .less3 .ensures))
 
 returns-6 : tie.Need-returns-6
-unfolding compared
-returns-6 c = rw (c .before .match .keys6, c .less4 .ensures)
+returns-6 c = compared _ _ _ (c .before .match .keys6) (c .less4 .ensures)
 
 returns-7 : tie.Need-returns-7
-unfolding compared
-returns-7 c = rw (ne-eqb _ _ (c .match .rest .0 .0 .0 .0 .0 .1), ne-eqb _ _ (c .match .rest .0 .0 .0 .0 .1), ne-eqb _ _ (c .match .rest .0 .0 .0 .1), ne-eqb _ _ (c .match .rest .0 .0 .1), ne-eqb _ _ (c .match .rest .0 .1), ne-eqb _ _ (c .match .rest .1))
+returns-7 c = not-compared _ _ _ (c .before .args .code) (c .match .rest)
 
 pub compare-spec : {M : Type 1} → statement M
 compare-spec =

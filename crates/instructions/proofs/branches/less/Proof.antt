@@ -3,7 +3,7 @@ use mathlib.Core.Path.{ap₂}
 use borrow.Author.Needs.{needs}
 use lib.Signed.{ltZ}
 use Rattle.instructions.proofs.Held.{held}
-use Rattle.instructions.specs.Branches.{less}
+use Rattle.instructions.specs.Meanings.{less}
 use Rattle.instructions.proofs.branches.less.Statement.{statement}
 use Rattle.instructions.proofs.branches.less.Tie as tie
 

@@ -1,9 +1,11 @@
--- `instructions::instruction::count` meets its contract. Assumes nothing.
+-- `instructions::instruction::count` meets its contract.
 use mathlib.Core.Path.{_∙_, ap}
-use borrow.Author.Needs.{needs}
 use Rattle.fields.specs.declared.gathers.Runs.{Runs}
 use Rattle.fields.specs.Gathers.{compressItems, mergeItems}
-use Rattle.instructions.proofs.Counting.{compress-counts, merge-counts, mask-counts, length-counts}
+use Rattle.instructions.specs.Plan.{itemsOf}
+use Rattle.instructions.specs.Planned.{planIn}
+use Rattle.instructions.proofs.Counting.{counted-at, length-counts}
+use borrow.Author.Needs.{needs}
 use Rattle.instructions.proofs.instruction.count.Statement.{statement}
 use Rattle.instructions.proofs.instruction.count.Tie as tie
 
@@ -35,16 +37,27 @@ cast-result : tie.Need-cast-result
 cast-result c = search needs
 
 returns : tie.Need-returns
-returns c = compress-counts (c .before .before .before .before .args .word) (c .before .before .before .before .args .o) (c .before .before .before .code-in .ensures .0) (c .before .before .match .keys1) (c .compress-items .ensures ∙ ap (λ (t : Runs). compressItems t) (c .before .runs .ensures))
+unfolding itemsOf planIn
+returns c =
+    let s = c .before .before .before .before in
+    counted-at (s .args .word) (s .args .o) (c .before .before .before .code-in .ensures .0) (c .before .before .match .keys1) (c .compress-items .ensures ∙ ap (λ (t : Runs). compressItems t) (c .before .runs .ensures))
 
 returns-2 : tie.Need-returns-2
-returns-2 c = merge-counts (c .before .before .before .before .args .word) (c .before .before .before .before .args .o) (c .before .before .before .code-in .ensures .0) (c .before .before .match .keys2) (c .merge-items .ensures ∙ ap (λ (t : Runs). mergeItems t) (c .before .runs2 .ensures))
+unfolding itemsOf planIn
+returns-2 c =
+    let s = c .before .before .before .before in
+    counted-at (s .args .word) (s .args .o) (c .before .before .before .code-in .ensures .0) (c .before .before .match .keys2) (c .merge-items .ensures ∙ ap (λ (t : Runs). mergeItems t) (c .before .runs2 .ensures))
 
 returns-3 : tie.Need-returns-3
-returns-3 c = mask-counts (c .before .before .before .before .args .word) (c .before .before .before .before .args .o) (c .before .before .before .code-in .ensures .0) (c .before .before .match .keys3) (c .merge-items2 .ensures ∙ ap (λ (t : Runs). mergeItems t) (c .before .runs3 .ensures))
+unfolding itemsOf planIn
+returns-3 c =
+    let s = c .before .before .before .before in
+    counted-at (s .args .word) (s .args .o) (c .before .before .before .code-in .ensures .0) (c .before .before .match .keys3) (c .merge-items2 .ensures ∙ ap (λ (t : Runs). mergeItems t) (c .before .runs3 .ensures))
 
 returns-4 : tie.Need-returns-4
-returns-4 c = length-counts (c .before .before .before .args .word) (c .before .before .before .args .o) (c .before .before .code-in .ensures .0) (c .before .match .rest .0 .0 .1) (c .before .match .rest .0 .1) (c .before .match .rest .1) (c .run-in .ensures)
+returns-4 c =
+    let s = c .before .before .before in
+    length-counts (s .args .word) (s .args .o) (c .before .before .code-in .ensures .0) (c .before .match .rest) (c .run-in .ensures)
 
 pub count-spec : {M : Type 1} → statement M
 count-spec =

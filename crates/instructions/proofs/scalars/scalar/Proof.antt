@@ -1,5 +1,5 @@
 -- `instructions::scalars::scalar`: each arm knows its code, at which the definition picks the arm's case; the last arm knows that no case fits. Assumes nothing.
-use mathlib.Core.Logic.{⊎-elim}
+use mathlib.Core.Logic.{inl, inr, ⊎-elim}
 use mathlib.Core.Path.{refl, sym, ap, _∙_}
 use Prim.Native.Nat.{ℕ}
 use native.Mathlib.Omega.{arith}
@@ -7,7 +7,7 @@ use borrow.Author.Needs.{needs}
 use denote.Ref.{now}
 use lib.ListN.{length}
 use Rattle.fields.specs.Bytes.{num}
-use Rattle.instructions.proofs.ByCode.{chosen, branched, nothing, register-is, word-is, half-is}
+use Rattle.instructions.proofs.ByCode.{reached-at, chosen, branched, nothing, register-is, word-is, half-is}
 use Rattle.instructions.specs.Scalars.{loadByteOf, loadWordOf}
 use Rattle.instructions.proofs.scalars.scalar.Statement.{statement}
 use Rattle.instructions.proofs.scalars.scalar.Tie as tie
@@ -22,7 +22,7 @@ cast-t : tie.Need-cast-t
 cast-t c = search needs
 
 load-byte-requires : tie.Need-load-byte-requires
-load-byte-requires c κs = c .before .before .before .before .pre .load-byte (sym (c .before .before .code-in .ensures .0) ∙ c .match .keys1)
+load-byte-requires c κs = reached-at _ _ _ 0x12 (sym (c .before .before .code-in .ensures .0) ∙ c .match .keys1) (c .before .before .before .before .pre)
 
 store-byte-requires : tie.Need-store-byte-requires
 store-byte-requires c κs = search needs
@@ -109,7 +109,7 @@ to-register-requires-9 : tie.Need-to-register-requires-9
 to-register-requires-9 c κs = search needs
 
 load-word-requires : tie.Need-load-word-requires
-load-word-requires c κs = c .before .before .before .before .pre .load-word (sym (c .before .before .code-in .ensures .0) ∙ c .match .keys17)
+load-word-requires c κs = reached-at _ _ _ 0x7E (sym (c .before .before .code-in .ensures .0) ∙ c .match .keys17) (c .before .before .before .before .pre)
 
 store-word-requires : tie.Need-store-word-requires
 store-word-requires c κs = search needs
@@ -178,7 +178,7 @@ returns-19 : tie.Need-returns-19
 returns-19 c = branched _ _ _ _ (c .before .before .before .before .before .code-in .ensures .0) (c .before .before .if1 .left) (c .before .if2 .taken) (c .branch .ensures)
 
 returns-20 : tie.Need-returns-20
-returns-20 c = nothing _ _ _ _ (c .before .before .before .before .code-in .ensures .0) (c .before .before .match .rest) (⊎-elim (λ p. (omega arith)) (λ p. (omega arith)) (c .before .if1 .came)) (c .goes-on .ensures)
+returns-20 c = nothing _ _ _ _ (c .before .before .before .before .code-in .ensures .0) (c .before .before .match .rest) (⊎-elim (λ p. inl (omega arith)) (λ p. inr (omega arith)) (c .before .if1 .came)) (c .goes-on .ensures)
 
 pub scalar-spec : {M : Type 1} → statement M
 scalar-spec =

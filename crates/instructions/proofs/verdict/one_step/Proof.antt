@@ -1,6 +1,6 @@
 -- A word is decoded once; one that is listed has its row.
-use borrow.Author.Needs.{needs}
 use Rattle.instructions.proofs.VerdictSteps.{refused-no-step, not-there-no-step, listed-step}
+use borrow.Author.Needs.{needs}
 use Rattle.instructions.proofs.verdict.one_step.Statement.{statement}
 use Rattle.instructions.proofs.verdict.one_step.Tie as tie
 
@@ -13,8 +13,8 @@ enum-told c = search needs
 enum-known-decoded : tie.Need-enum-known-decoded
 enum-known-decoded c = search needs
 
-is-long-requires : tie.Need-is-long-requires
-is-long-requires c κs = search needs
+long-requires : tie.Need-long-requires
+long-requires c κs = search needs
 
 cut-off-requires : tie.Need-cut-off-requires
 cut-off-requires c κs = search needs
@@ -22,7 +22,8 @@ cut-off-requires c κs = search needs
 returns : tie.Need-returns
 returns c =
     let s = c .before .before .before .before .before .before .before .before in
-    not-there-no-step (s .args .word) (s .args .o) _ (s .args .p .0) (c .before .before .before .before .before .before .decode .result) (c .before .before .before .before .before .before .decode .ensures) _ (s .pre) _ (c .before .before .before .before .decoded .given .1) _ _ (c .before .before .is-long .ensures) (c .before .cut-off .ensures) (c .if1 .taken)
+    let a = s .args in
+    not-there-no-step (a .word) (a .o) _ (a .p .0) (c .before .before .before .before .before .before .decode .result) (c .before .before .before .before .before .before .decode .ensures) _ (s .pre) _ (c .before .before .before .before .decoded .given .1) _ _ (c .before .before .long .ensures) (c .before .cut-off .ensures) (c .if1 .taken)
 
 kind-requires : tie.Need-kind-requires
 kind-requires c κs = search needs
@@ -33,12 +34,14 @@ one-step-of-requires c κs = search needs
 returns-2 : tie.Need-returns-2
 returns-2 c =
     let s = c .before .before .before .before in
-    refused-no-step (s .args .word) (s .args .o) _ (s .args .p .0) (c .before .before .decode .result) (c .before .before .decode .ensures) _ (c .enum-told .given .1)
+    let a = s .args in
+    refused-no-step (a .word) (a .o) _ (a .p .0) (c .before .before .decode .result) (c .before .before .decode .ensures) _ (c .enum-told .given .1)
 
 returns-3 : tie.Need-returns-3
 returns-3 c =
     let s = c .before .before .before .before .before .before .before .before .before .before in
-    listed-step (s .args .word) (s .args .o) _ (s .args .p .0) (c .before .before .before .before .before .before .before .before .decode .result) (c .before .before .before .before .before .before .before .before .decode .ensures) _ (s .pre) _ (c .before .before .before .before .before .before .decoded .given .1) _ _ (c .before .before .before .before .is-long .ensures) (c .before .before .before .cut-off .ensures) _ _ (c .before .kind .ensures) (c .before .before .if1 .left) (c .one-step-of .ensures)
+    let a = s .args in
+    listed-step (a .word) (a .o) _ (a .p .0) (c .before .before .before .before .before .before .before .before .decode .result) (c .before .before .before .before .before .before .before .before .decode .ensures) _ (s .pre) _ (c .before .before .before .before .before .before .decoded .given .1) _ _ (c .before .before .before .before .long .ensures) (c .before .before .before .cut-off .ensures) _ _ (c .before .kind .ensures) (c .before .before .if1 .left) (c .one-step-of .ensures)
 
 pub one-step-spec : {M : Type 1} → statement M
 one-step-spec =
@@ -47,7 +50,7 @@ one-step-spec =
     decode-requires
     enum-told
     enum-known-decoded
-    is-long-requires
+    long-requires
     cut-off-requires
     returns
     kind-requires

@@ -1,0 +1,25 @@
+-- `instructions::table::row_at` meets its contract.
+use mathlib.Core.Path.{_≡_}
+use Rattle.instructions.specs.Table.{table, placed}
+use Rattle.instructions.proofs.TablePlaces.{row-placed, none-placed}
+use native.Mathlib.Omega.{arith}
+use borrow.Author.Needs.{needs}
+use Rattle.instructions.proofs.table.row_at.Statement.{statement}
+use Rattle.instructions.proofs.table.row_at.Tie as tie
+
+mul-t81 : tie.Need-mul-t81
+mul-t81 c = search needs
+
+array-copy-out-t84 : tie.Need-array-copy-out-t84
+array-copy-out-t84 c = search needs
+
+returns : tie.Need-returns
+unfolding placed
+returns c = row-placed table (c .before .before .args .place) _ (omega arith)
+
+returns-2 : tie.Need-returns-2
+unfolding placed
+returns-2 c = none-placed table (c .before .args .place) (omega arith)
+
+pub row-at-spec : {M : Type 1} → statement M
+row-at-spec = tie.close (tie.spec mul-t81 array-copy-out-t84 returns returns-2)
