@@ -1,4 +1,7 @@
-/* A host that shares its time: three jobs in turn, three steps each, until each has ended. share.rs is the same host in Rust. */
+/*
+ * A host that shares its time: five jobs in turn, three steps each, until each has ended. After each turn it writes the record, all five fields of it.
+ * share.rs is the same host in Rust.
+ */
 #include "rawgunshet.h"
 
 #include <inttypes.h>
@@ -6,7 +9,7 @@
 
 #define WORDS 16
 #define BUDGET 3
-#define JOBS 3
+#define JOBS 5
 
 struct job {
     const char *name;
@@ -79,14 +82,46 @@ static void load_own_word(struct job *job)
     job->registers[0x12] = 0x4108;
 }
 
+/* A vector contracts five words to half words, rounded, then exit: the second is too large (flags 42 and 46), the fourth too small (43). */
+static void load_trace(struct job *job)
+{
+    put(job, 0, 0x9700001000000011);
+    put(job, 1, 0x0900000000000000);
+    put(job, 2, 0x0000000000800000);
+    put(job, 3, 0x00577FFFFFFFFFFF);
+    put(job, 4, 0x00007FFFFFFFFFFF);
+    put(job, 5, 0xFF777FFFFFFFFFFF);
+    put(job, 6, 0x0000FFFFFF800000);
+    job->registers[0x10] = 0x0005000000004080;
+    job->registers[0x11] = 0x00050000000041C0;
+}
+
+/* The reservoir as a host kept it, two of its seven items added: the record says so, and that flag 46 was set before. */
+static void load_kept(struct job *job)
+{
+    load_reservoir(job);
+    put(job, 9, 101);
+    put(job, 10, 202);
+    job->record = (struct rawgunshet_record){.p = 0x4000, .mark = 1, .word = 0x8300001000110011, .items = 2, .flags = 1 << 17};
+}
+
 /* One turn of a job. */
 static void run(unsigned turn, struct job *job)
 {
     uint64_t result = rawgunshet_run(job->memory, sizeof job->memory, job->registers, 256, &job->record, BUDGET);
     enum rawgunshet_number answer = rawgunshet_answer(result);
-    printf("turn %u, %s: answer %u (%s), steps %" PRIu32 ", P %" PRIX64 ", items done %" PRIu64 "\n", turn, job->name, (unsigned)answer,
-           words[answer], rawgunshet_steps(result), job->record.p, job->record.items);
+    const struct rawgunshet_record *at = &job->record;
+    printf("turn %u, %s: answer %u (%s), steps %" PRIu32 "; ", turn, job->name, (unsigned)answer, words[answer], rawgunshet_steps(result));
+    printf("p %" PRIX64 ", mark %" PRIu64 ", word %" PRIX64 ", items %" PRIu64 ", flags %" PRIX64 "\n", at->p, at->mark, at->word, at->items, at->flags);
     job->ended = answer != RAWGUNSHET_PAUSED;
+}
+
+static void show_storage(const struct job *job)
+{
+    printf("%s: storage", job->name);
+    for (size_t k = 0; k < 7; k++)
+        printf(" %" PRIu64, get(job, 9 + k));
+    printf("\n");
 }
 
 int main(void)
@@ -95,10 +130,14 @@ int main(void)
         {.name = "reservoir", .record.p = 0x4000},
         {.name = "loop", .record.p = 0x4000},
         {.name = "own word", .record.p = 0x4000},
+        {.name = "trace", .record.p = 0x4000},
+        {.name = "kept", .record.p = 0x4000},
     };
     load_reservoir(&jobs[0]);
     load_loop(&jobs[1]);
     load_own_word(&jobs[2]);
+    load_trace(&jobs[3]);
+    load_kept(&jobs[4]);
 
     size_t left = JOBS;
     for (unsigned turn = 1; left > 0; turn++) {
@@ -110,10 +149,10 @@ int main(void)
         }
     }
 
-    printf("reservoir: storage");
-    for (size_t k = 0; k < 7; k++)
-        printf(" %" PRIu64, get(&jobs[0], 9 + k));
-    printf("\nloop: sum %" PRIu64 ", count %" PRIu64 "\n", jobs[1].registers[0x20], jobs[1].registers[0x21]);
+    show_storage(&jobs[0]);
+    printf("loop: sum %" PRIu64 ", count %" PRIu64 "\n", jobs[1].registers[0x20], jobs[1].registers[0x21]);
     printf("own word: %016" PRIX64 " at 4000\n", get(&jobs[2], 0));
+    printf("trace: %016" PRIX64 " %016" PRIX64 " %016" PRIX64 " at 41C0\n", get(&jobs[3], 7), get(&jobs[3], 8), get(&jobs[3], 9));
+    show_storage(&jobs[4]);
     return 0;
 }

@@ -1,4 +1,5 @@
-// A host that shares its time: three jobs in turn, three steps each, until each has ended. share.c is the same host in C.
+// A host that shares its time: five jobs in turn, three steps each, until each has ended. After each turn it writes the record, all five fields of it.
+// share.c is the same host in C.
 
 const BUDGET: u32 = 3;
 
@@ -12,6 +13,13 @@ struct Record {
     items: u64,
     flags: u64,
 }
+
+// The archive has the five numbers in this order, 8 bytes each. The compiler checks that the record is the same.
+const _: () = {
+    // SAFETY: five numbers of 64 bits are a record of 40 bytes, or this does not compile; every pattern of bits is a number.
+    let Record { p, mark, word, items, flags } = unsafe { std::mem::transmute::<[u64; 5], Record>([0, 1, 2, 3, 4]) };
+    assert!(p == 0 && mark == 1 && word == 2 && items == 3 && flags == 4);
+};
 
 extern "C" {
     fn rawgunshet_run(memory: *mut u8, bytes: usize, registers: *mut u64, count: usize, record: *mut Record, budget: u32) -> u64;
@@ -65,16 +73,25 @@ impl Job {
     // One turn of a job.
     fn turn(&mut self, turn: u32) {
         let (answer, steps) = run(&mut self.memory, &mut self.registers, &mut self.record, BUDGET);
-        let Record { p, items, .. } = self.record;
+        let Record { p, mark, word, items, flags } = self.record;
         let (name, words) = (self.name, WORDS[answer as usize]);
-        println!("turn {turn}, {name}: answer {answer} ({words}), steps {steps}, P {p:X}, items done {items}");
+        print!("turn {turn}, {name}: answer {answer} ({words}), steps {steps}; ");
+        println!("p {p:X}, mark {mark}, word {word:X}, items {items}, flags {flags:X}");
         self.ended = answer != 0;
+    }
+
+    fn show_storage(&self) {
+        print!("{}: storage", self.name);
+        for k in 0..7 {
+            print!(" {}", self.get(9 + k));
+        }
+        println!();
     }
 }
 
 // A vector add of seven words, then exit: the inflow at 4080 is added to the storage at 4240, in place.
-fn reservoir() -> Job {
-    let mut job = Job::new("reservoir");
+fn reservoir(name: &'static str) -> Job {
+    let mut job = Job::new(name);
     job.put(0, 0x8300_0010_0011_0011);
     job.put(1, 0x0900_0000_0000_0000);
     for k in 0..7 {
@@ -108,8 +125,32 @@ fn own_word() -> Job {
     job
 }
 
+// A vector contracts five words to half words, rounded, then exit: the second is too large (flags 42 and 46), the fourth too small (43).
+fn trace() -> Job {
+    let mut job = Job::new("trace");
+    job.put(0, 0x9700_0010_0000_0011);
+    job.put(1, 0x0900_0000_0000_0000);
+    job.put(2, 0x0000_0000_0080_0000);
+    job.put(3, 0x0057_7FFF_FFFF_FFFF);
+    job.put(4, 0x0000_7FFF_FFFF_FFFF);
+    job.put(5, 0xFF77_7FFF_FFFF_FFFF);
+    job.put(6, 0x0000_FFFF_FF80_0000);
+    job.registers[0x10] = 0x0005_0000_0000_4080;
+    job.registers[0x11] = 0x0005_0000_0000_41C0;
+    job
+}
+
+// The reservoir as a host kept it, two of its seven items added: the record says so, and that flag 46 was set before.
+fn kept() -> Job {
+    let mut job = reservoir("kept");
+    job.put(9, 101);
+    job.put(10, 202);
+    job.record = Record { p: 0x4000, mark: 1, word: 0x8300_0010_0011_0011, items: 2, flags: 1 << 17 };
+    job
+}
+
 pub fn main() {
-    let mut jobs = [reservoir(), counting(), own_word()];
+    let mut jobs = [reservoir("reservoir"), counting(), own_word(), trace(), kept()];
     let mut turn = 1;
     while jobs.iter().any(|job| !job.ended) {
         for job in jobs.iter_mut().filter(|job| !job.ended) {
@@ -118,11 +159,10 @@ pub fn main() {
         turn += 1;
     }
 
-    let [reservoir, counting, own_word] = &jobs;
-    print!("reservoir: storage");
-    for k in 0..7 {
-        print!(" {}", reservoir.get(9 + k));
-    }
-    println!("\nloop: sum {}, count {}", counting.registers[0x20], counting.registers[0x21]);
+    let [reservoir, counting, own_word, trace, kept] = &jobs;
+    reservoir.show_storage();
+    println!("loop: sum {}, count {}", counting.registers[0x20], counting.registers[0x21]);
     println!("own word: {:016X} at 4000", own_word.get(0));
+    println!("trace: {:016X} {:016X} {:016X} at 41C0", trace.get(7), trace.get(8), trace.get(9));
+    kept.show_storage();
 }

@@ -30,6 +30,22 @@ struct rawgunshet_record {
     uint64_t flags; /* data flags: 42 is 1 << 21, 43 is 1 << 20, 46 is 1 << 17; set and never cleared */
 };
 
+/* The archive has the five numbers in this order, 8 bytes each. A compiler for C11 or C++11 checks that its record is the same. */
+#if defined(__cplusplus) && __cplusplus >= 201103L
+#define RAWGUNSHET_ASSERT(fact) static_assert(fact, #fact)
+#elif defined(__STDC_VERSION__) && __STDC_VERSION__ >= 201112L
+#define RAWGUNSHET_ASSERT(fact) _Static_assert(fact, #fact)
+#endif
+#ifdef RAWGUNSHET_ASSERT
+RAWGUNSHET_ASSERT(offsetof(struct rawgunshet_record, p) == 0);
+RAWGUNSHET_ASSERT(offsetof(struct rawgunshet_record, mark) == 8);
+RAWGUNSHET_ASSERT(offsetof(struct rawgunshet_record, word) == 16);
+RAWGUNSHET_ASSERT(offsetof(struct rawgunshet_record, items) == 24);
+RAWGUNSHET_ASSERT(offsetof(struct rawgunshet_record, flags) == 32);
+RAWGUNSHET_ASSERT(sizeof(struct rawgunshet_record) == 40);
+#undef RAWGUNSHET_ASSERT
+#endif
+
 /*
  * What a call says. Checked in this order: 2, 3, a budget of 0, then at each instruction 4, 1 and 5 to 11; a 09 with operands is 6.
  * 1 to 11 leave memory, registers and record as the last finished step left them, P at the exit or the refused word.
