@@ -23,7 +23,7 @@ fn more_sources(m: &mut [u8]) {
     of_runs::put(m, 56, 0x8000_0000_0000_0001);
     of_runs::put(m, 64, 0xFF77_0000_0000_0001);
     of_runs::put(m, 72, 0x0000_0000_0000_00FF);
-    of_runs::put(m, 80, 0xB4C3_0000_0000_0000);
+    of_runs::put(m, 80, 0xB4C3_0000_0900_0000); // control bits, and an exit at 42A0
     of_runs::put(m, 88, 0x1234_0000_0000_0005);
 }
 
@@ -74,7 +74,7 @@ fn case(word: u64, t: usize, v: u64) {
     registers[0x1B] = 0x0000_0000_0000_0002;
     registers[0x1C] = 0x0000_0000_0000_4300;
     registers[0x1D] = 0x0000_0000_0000_0001;
-    registers[0x1E] = 0x0000_0000_0000_4040;
+    registers[0x1E] = 0x0000_0000_0000_42A0;
     registers[0x20] = 0x0004_0000_0000_4080;
     registers[0x21] = 0x0004_0000_0000_4180;
     registers[0x22] = 0x0004_0000_0000_4300;
