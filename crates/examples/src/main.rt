@@ -1,4 +1,6 @@
 // 01's examples and the ends of the ranges, run. What is written is held to the file stdout, which was worked out by a model of its own.
+mod codes; // the listed codes by name
+mod one_job; // one instruction and exit: what is lent, and the line that says what came out
 mod of_codes; // every listed code, and every refusal that its word can meet
 mod of_fields; // memory, extents, overlaps, and what compress, merge and mask read
 mod of_runs; // the reservoir job, a vector over its own word, a move, refusals

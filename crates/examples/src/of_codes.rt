@@ -1,102 +1,13 @@
-// Every listed code once and more, and every refusal that its word can meet: one instruction, then exit.
-use crate::of_runs;
-use runs::answers;
-use runs::calls;
-use runs::calls::Outcome;
-use runs::records::Record;
+// Every listed code once and more, and every refusal that its word can meet: one instruction, then exit. What the registers hold, one_job says.
+use crate::codes;
+use crate::one_job::cut_off;
+use crate::one_job::long;
+use crate::one_job::long_with;
+use crate::one_job::plain;
+use crate::one_job::short;
+use crate::one_job::short_with;
 
-// 128 bytes: the instruction, exit, words of every kind, and four words that results go to.
-fn instruction(m: &mut [u8], word: u64) {
-    of_runs::put(m, 0, word);
-    of_runs::put(m, 8, 0x0900_0000_0000_0000);
-}
-
-fn sources(m: &mut [u8]) {
-    of_runs::put(m, 16, 0x0000_0000_0100_0000);
-    of_runs::put(m, 24, 0xFFFF_FFFF_FFFF_FFFD);
-    of_runs::put(m, 32, 0x0058_0000_0000_0001);
-    of_runs::put(m, 40, 0x7123_4567_89AB_CDEF);
-    of_runs::put(m, 48, 0x0000_8000_0000_0000);
-}
-
-fn more_sources(m: &mut [u8]) {
-    of_runs::put(m, 56, 0x8000_0000_0000_0001);
-    of_runs::put(m, 64, 0xFF77_0000_0000_0001);
-    of_runs::put(m, 72, 0x0000_0000_0000_00FF);
-    of_runs::put(m, 80, 0xB4C3_0000_0900_0000); // control bits, and an exit at 42A0
-    of_runs::put(m, 88, 0x1234_0000_0000_0005);
-}
-
-fn results(m: &mut [u8]) {
-    of_runs::put(m, 104, 0x1111_1111_1111_1111);
-    of_runs::put(m, 112, 0x2222_2222_2222_2222);
-    of_runs::put(m, 120, 0x3333_3333_3333_3333);
-}
-
-fn tell(word: u64, t: usize, v: u64, r: Outcome) {
-    lines::hex(b"", word, 16);
-    lines::hex(b" ", t as u64, 2);
-    lines::hex(b" ", v, 16);
-    let answer = r.answer;
-    let rec = r.rec;
-    lines::decimal(b": answer ", answers::number(answer));
-    lines::decimal(b" steps ", r.steps as u64);
-    lines::hex(b" P ", rec.p, 1);
-    lines::hex(b" flags ", rec.flags, 6);
-}
-
-fn show(m: &[u8], register: u64) {
-    lines::hex(b" T ", register, 16);
-    lines::hex(b" C ", of_runs::get(m, 96), 16);
-    lines::hex(b" ", of_runs::get(m, 104), 16);
-    lines::hex(b" ", of_runs::get(m, 112), 16);
-    lines::hex(b" ", of_runs::get(m, 120), 16);
-    lines::text(b"\n");
-}
-
-// Register t holds v (register 0 is never read), the others as they are set here; then register 30 and the last four words are shown.
-fn case(word: u64, t: usize, v: u64) {
-    let mut m = [0u8; 128];
-    let mut registers = [0u64; 256];
-    instruction(&mut m, word);
-    sources(&mut m);
-    more_sources(&mut m);
-    results(&mut m);
-    registers[0x10] = 0x0000_0000_0100_0000;
-    registers[0x11] = 0x0012_FFFF_FFFF_FFFF;
-    registers[0x12] = 0xFFFF_FFFF_FFFF_FFFD;
-    registers[0x14] = 0x0057_7FFF_FFFF_FFFF;
-    registers[0x15] = 0xFF77_7FFF_FFFF_FFFF;
-    registers[0x16] = 0x7123_4567_89AB_CDEF;
-    registers[0x18] = 0x0000_0000_0000_4080;
-    registers[0x19] = 0x0000_0000_0000_0003;
-    registers[0x1A] = 0x0000_0000_0000_4080;
-    registers[0x1B] = 0x0000_0000_0000_0002;
-    registers[0x1C] = 0x0000_0000_0000_4300;
-    registers[0x1D] = 0x0000_0000_0000_0001;
-    registers[0x1E] = 0x0000_0000_0000_42A0;
-    registers[0x20] = 0x0004_0000_0000_4080;
-    registers[0x21] = 0x0004_0000_0000_4180;
-    registers[0x22] = 0x0004_0000_0000_4300;
-    registers[0x23] = 0x0000_0000_0000_4280;
-    registers[0x24] = 0x0004_0000_0000_4300;
-    registers[0x25] = 0x0002_0000_0000_4080;
-    registers[0x26] = 0x0001_0000_0000_40C0;
-    registers[0x27] = 0x0028_0000_0000_4303;
-    registers[0x28] = 0x0001_0000_0000_0000;
-    registers[0x29] = 0x0005_0000_0000_4088;
-    registers[0x2A] = 0x000C_0000_0000_4300;
-    registers[0x30] = 0xAAAA_AAAA_BBBB_BBBB;
-    registers[t % 256] = v;
-    let r = calls::run(&mut m, &mut registers, Record::between(0x4000, 0), 200);
-    tell(word, t, v, r);
-    show(&m, registers[0x30]);
-}
-
-fn plain(word: u64) {
-    case(word, 0, 0);
-}
-
+// Exit; two codes that are not listed: 5; exit with an R, and with a T: 6.
 fn exit_and_codes_not_listed() {
     plain(0x0900_0000_0000_0000);
     plain(0x0100_0000_0000_0000);
@@ -105,548 +16,301 @@ fn exit_and_codes_not_listed() {
     plain(0x0900_0001_0000_0000);
 }
 
+// R, S and T 00 in turn: 7.
+fn designators_00(code: u64, rst: u64) {
+    short(code, rst & 0x00_FF_FF);
+    short(code, rst & 0xFF_00_FF);
+    short(code, rst & 0xFF_FF_00);
+}
+
+// Register 18 is the address and register 1F is zero. No multiple of 8 or 64: 8. The last word of the register file, the first behind the memory: 10.
+fn address_refused(code: u64) {
+    designators_00(code, 0x18_19_30);
+    short_with(code, 0x18_1F_30, 0x18, 0x4081);
+    short_with(code, 0x18_1F_30, 0x18, 0x3FC0);
+    short_with(code, 0x18_1F_30, 0x18, 0x4400);
+}
+
+// Three bytes and two words on, to register 30 and from register 11.
 fn load_and_store() {
-    plain(0x1218_1930_0900_0000);
-    plain(0x7E18_1B30_0900_0000);
-    plain(0x131C_1911_0900_0000);
-    plain(0x7F1C_1B11_0900_0000);
-    plain(0x1200_1930_0900_0000);
-    plain(0x1218_0030_0900_0000);
-    plain(0x1218_1900_0900_0000);
-    case(0x1218_1F30_0900_0000, 0x18, 0x4081);
-    case(0x1218_1F30_0900_0000, 0x18, 0x3FC0);
-    case(0x1218_1F30_0900_0000, 0x18, 0x4400);
-    plain(0x1300_1930_0900_0000);
-    plain(0x1318_0030_0900_0000);
-    plain(0x1318_1900_0900_0000);
-    case(0x1318_1F30_0900_0000, 0x18, 0x4081);
-    case(0x1318_1F30_0900_0000, 0x18, 0x3FC0);
-    case(0x1318_1F30_0900_0000, 0x18, 0x4400);
-    plain(0x7E00_1930_0900_0000);
-    plain(0x7E18_0030_0900_0000);
-    plain(0x7E18_1900_0900_0000);
-    case(0x7E18_1F30_0900_0000, 0x18, 0x4081);
-    case(0x7E18_1F30_0900_0000, 0x18, 0x3FC0);
-    case(0x7E18_1F30_0900_0000, 0x18, 0x4400);
-    plain(0x7F00_1930_0900_0000);
-    plain(0x7F18_0030_0900_0000);
-    plain(0x7F18_1900_0900_0000);
-    case(0x7F18_1F30_0900_0000, 0x18, 0x4081);
-    case(0x7F18_1F30_0900_0000, 0x18, 0x3FC0);
-    case(0x7F18_1F30_0900_0000, 0x18, 0x4400);
+    short(codes::LOAD_BYTE, 0x18_19_30);
+    short(codes::LOAD_WORD, 0x18_1B_30);
+    short(codes::STORE_BYTE, 0x1C_19_11);
+    short(codes::STORE_WORD, 0x1C_1B_11);
+    address_refused(codes::LOAD_BYTE);
+    address_refused(codes::STORE_BYTE);
+    address_refused(codes::LOAD_WORD);
+    address_refused(codes::STORE_WORD);
 }
 
 // A register's count is its low 48, and addresses wrap at 2^48: three bytes or words before.
 fn counts_that_wrap() {
-    plain(0x1218_1230_0900_0000);
-    plain(0x131C_1211_0900_0000);
-    plain(0x7E1C_1230_0900_0000);
-    plain(0x7F1C_1211_0900_0000);
+    short(codes::LOAD_BYTE, 0x18_12_30);
+    short(codes::STORE_BYTE, 0x1C_12_11);
+    short(codes::LOAD_WORD, 0x1C_12_30);
+    short(codes::STORE_WORD, 0x1C_12_11);
 }
 
-fn compress_merge_mask_1() {
-    plain(0x1425_2627_0900_0000);
-    plain(0x1525_2627_0900_0000);
-    plain(0x1625_2627_0900_0000);
-    plain(0x1525_2827_0900_0000);
-    plain(0x1625_2827_0900_0000);
-    plain(0x1400_2627_0900_0000);
-    plain(0x1425_0027_0900_0000);
-    plain(0x1425_2600_0900_0000);
-    case(0x1425_2627_0900_0000, 0x25, 0x4080);
-    case(0x1425_2627_0900_0000, 0x27, 0x4303);
-    case(0x1425_2627_0900_0000, 0x26, 0x40C0);
-    case(0x1425_2627_0900_0000, 0x27, 0x280000000043E0);
-    case(0x1425_2627_0900_0000, 0x25, 0x2000000003FFF);
-    case(0x1425_2627_0900_0000, 0x26, 0x10000000043FF);
-    case(0x1425_2627_0900_0000, 0x26, 0x1000000001000);
-    case(0x1425_2627_0900_0000, 0x27, 0x28000000004085);
-    case(0x1425_2627_0900_0000, 0x26, 0x1000000004303);
-    plain(0x1500_2627_0900_0000);
-    plain(0x1525_0027_0900_0000);
-    plain(0x1525_2600_0900_0000);
-    case(0x1525_2627_0900_0000, 0x25, 0x4080);
-    case(0x1525_2627_0900_0000, 0x27, 0x4303);
-    case(0x1525_2627_0900_0000, 0x26, 0x40C0);
-    case(0x1525_2627_0900_0000, 0x27, 0x280000000043E0);
-    case(0x1525_2627_0900_0000, 0x25, 0x2000000003FFF);
-    case(0x1525_2627_0900_0000, 0x26, 0x10000000043FF);
-    case(0x1525_2627_0900_0000, 0x26, 0x1000000001000);
-    case(0x1525_2627_0900_0000, 0x27, 0x28000000004085);
-    case(0x1525_2627_0900_0000, 0x26, 0x1000000004303);
-    plain(0x1600_2627_0900_0000);
-    plain(0x1625_0027_0900_0000);
-    plain(0x1625_2600_0900_0000);
-    case(0x1625_2627_0900_0000, 0x25, 0x4080);
-    case(0x1625_2627_0900_0000, 0x27, 0x4303);
-    case(0x1625_2627_0900_0000, 0x26, 0x40C0);
-    case(0x1625_2627_0900_0000, 0x27, 0x280000000043E0);
+// r, n and s zero. T past the end, R in the register file, S past the end and in the register file where it is read: 10. T over R, S over T where it is read: 11.
+fn bit_fields_at_the_ends(code: u64) {
+    designators_00(code, 0x25_26_27);
+    short_with(code, 0x25_26_27, 0x25, 0x0000_0000_0000_4080);
+    short_with(code, 0x25_26_27, 0x27, 0x0000_0000_0000_4303);
+    short_with(code, 0x25_26_27, 0x26, 0x0000_0000_0000_40C0);
+    short_with(code, 0x25_26_27, 0x27, 0x0028_0000_0000_43E0);
+    short_with(code, 0x25_26_27, 0x25, 0x0002_0000_0000_3FFF);
+    short_with(code, 0x25_26_27, 0x26, 0x0001_0000_0000_43FF);
+    short_with(code, 0x25_26_27, 0x26, 0x0001_0000_0000_1000);
+    short_with(code, 0x25_26_27, 0x27, 0x0028_0000_0000_4085);
+    short_with(code, 0x25_26_27, 0x26, 0x0001_0000_0000_4303);
 }
 
-fn compress_merge_mask_2() {
-    case(0x1625_2627_0900_0000, 0x25, 0x2000000003FFF);
-    case(0x1625_2627_0900_0000, 0x26, 0x10000000043FF);
-    case(0x1625_2627_0900_0000, 0x26, 0x1000000001000);
-    case(0x1625_2627_0900_0000, 0x27, 0x28000000004085);
-    case(0x1625_2627_0900_0000, 0x26, 0x1000000004303);
+// Runs of two bits and of one; then merge and mask with zeros for S.
+fn compress_merge_mask() {
+    short(codes::COMPRESS, 0x25_26_27);
+    short(codes::MERGE, 0x25_26_27);
+    short(codes::MASK, 0x25_26_27);
+    short(codes::MERGE, 0x25_28_27);
+    short(codes::MASK, 0x25_28_27);
+    bit_fields_at_the_ends(codes::COMPRESS);
+    bit_fields_at_the_ends(codes::MERGE);
+    bit_fields_at_the_ends(codes::MASK);
 }
 
 fn two_words_to_one() {
-    plain(0x2C11_1230_0900_0000);
-    plain(0x2D11_1230_0900_0000);
-    plain(0x2E11_1230_0900_0000);
-    plain(0x6311_1230_0900_0000);
-    plain(0x6711_1230_0900_0000);
-    plain(0x7B11_1230_0900_0000);
-    plain(0x2C00_1230_0900_0000);
-    plain(0x2C11_0030_0900_0000);
-    plain(0x2C11_1200_0900_0000);
-    plain(0x2D00_1230_0900_0000);
-    plain(0x2D11_0030_0900_0000);
-    plain(0x2D11_1200_0900_0000);
-    plain(0x2E00_1230_0900_0000);
-    plain(0x2E11_0030_0900_0000);
-    plain(0x2E11_1200_0900_0000);
-    plain(0x6300_1230_0900_0000);
-    plain(0x6311_0030_0900_0000);
-    plain(0x6311_1200_0900_0000);
-    plain(0x6700_1230_0900_0000);
-    plain(0x6711_0030_0900_0000);
-    plain(0x6711_1200_0900_0000);
-    plain(0x7B00_1230_0900_0000);
-    plain(0x7B11_0030_0900_0000);
-    plain(0x7B11_1200_0900_0000);
+    short(codes::EXCLUSIVE_OR, 0x11_12_30);
+    short(codes::AND, 0x11_12_30);
+    short(codes::INCLUSIVE_OR, 0x11_12_30);
+    short(codes::ADD, 0x11_12_30);
+    short(codes::SUBTRACT, 0x11_12_30);
+    short(codes::PACK, 0x11_12_30);
+    designators_00(codes::EXCLUSIVE_OR, 0x11_12_30);
+    designators_00(codes::AND, 0x11_12_30);
+    designators_00(codes::INCLUSIVE_OR, 0x11_12_30);
+    designators_00(codes::ADD, 0x11_12_30);
+    designators_00(codes::SUBTRACT, 0x11_12_30);
+    designators_00(codes::PACK, 0x11_12_30);
 }
 
-fn one_word_to_one_1() {
-    plain(0x7012_0030_0900_0000);
-    plain(0x7016_0030_0900_0000);
-    plain(0x7112_0030_0900_0000);
-    plain(0x7116_0030_0900_0000);
-    plain(0x7212_0030_0900_0000);
-    plain(0x7216_0030_0900_0000);
-    plain(0x7610_0060_0900_0000);
-    plain(0x7614_0061_0900_0000);
-    plain(0x7615_0060_0900_0000);
-    plain(0x7616_0061_0900_0000);
-    plain(0x7710_0060_0900_0000);
-    plain(0x7714_0061_0900_0000);
-    plain(0x7715_0060_0900_0000);
-    plain(0x7716_0061_0900_0000);
-    plain(0x7812_0030_0900_0000);
-    plain(0x7A12_0030_0900_0000);
-    plain(0x7C12_0030_0900_0000);
-    plain(0x7012_0130_0900_0000);
-    plain(0x7000_0030_0900_0000);
-    plain(0x7012_0000_0900_0000);
-    plain(0x7012_0001_0900_0000);
-    plain(0x7112_0130_0900_0000);
-    plain(0x7100_0030_0900_0000);
-    plain(0x7112_0000_0900_0000);
-    plain(0x7112_0001_0900_0000);
-    plain(0x7212_0130_0900_0000);
-    plain(0x7200_0030_0900_0000);
-    plain(0x7212_0000_0900_0000);
-    plain(0x7212_0001_0900_0000);
-    plain(0x7612_0130_0900_0000);
-    plain(0x7600_0030_0900_0000);
-    plain(0x7612_0000_0900_0000);
-    plain(0x7612_0001_0900_0000);
-    plain(0x7712_0130_0900_0000);
-    plain(0x7700_0030_0900_0000);
-    plain(0x7712_0000_0900_0000);
+// A fraction, and an indefinite number.
+fn whole(code: u64) {
+    short(code, 0x12_00_30);
+    short(code, 0x16_00_30);
 }
 
-fn one_word_to_one_2() {
-    plain(0x7712_0001_0900_0000);
-    plain(0x7812_0130_0900_0000);
-    plain(0x7800_0030_0900_0000);
-    plain(0x7812_0000_0900_0000);
-    plain(0x7812_0001_0900_0000);
-    plain(0x7A12_0130_0900_0000);
-    plain(0x7A00_0030_0900_0000);
-    plain(0x7A12_0000_0900_0000);
-    plain(0x7A12_0001_0900_0000);
-    plain(0x7C12_0130_0900_0000);
-    plain(0x7C00_0030_0900_0000);
-    plain(0x7C12_0000_0900_0000);
-    plain(0x7C12_0001_0900_0000);
+// In range, at its upper end, below it, indefinite; to the left half of register 30 and to the right half.
+fn contracted(code: u64) {
+    short(code, 0x10_00_60);
+    short(code, 0x14_00_61);
+    short(code, 0x15_00_60);
+    short(code, 0x16_00_61);
 }
 
-fn vectors_of_two_1() {
-    plain(0x8300_0020_0021_0022);
-    plain(0x8300_0020_0021_2322);
-    plain(0x8340_0020_0021_2322);
-    plain(0x8310_0020_0021_0022);
-    plain(0x8308_0020_0021_2322);
-    plain(0x8358_0020_0021_2322);
-    plain(0x8300_0020_0022_0022);
-    plain(0x8300_0022_0022_0022);
-    plain(0x8700_0020_0021_0022);
-    plain(0x8700_0020_0021_2322);
-    plain(0x8740_0020_0021_2322);
-    plain(0x8710_0020_0021_0022);
-    plain(0x8708_0020_0021_2322);
-    plain(0x8758_0020_0021_2322);
-    plain(0x8700_0020_0022_0022);
-    plain(0x8700_0022_0022_0022);
-    plain(0x8A00_0020_0021_0022);
-    plain(0x8A00_0020_0021_2322);
-    plain(0x8A40_0020_0021_2322);
-    plain(0x8A10_0020_0021_0022);
-    plain(0x8A08_0020_0021_2322);
-    plain(0x8A58_0020_0021_2322);
-    plain(0x8A00_0020_0022_0022);
-    plain(0x8A00_0022_0022_0022);
-    plain(0x8380_0020_0021_2322);
-    plain(0x8301_0020_0021_2322);
-    plain(0x8340_0020_0021_0022);
-    plain(0x8300_0120_0021_0022);
-    plain(0x8300_0020_0121_0022);
-    plain(0x8300_0000_0021_0022);
-    plain(0x8300_0020_0021_0000);
-    plain(0x8300_0020_0000_0022);
-    case(0x8300_0020_0021_0022, 0x22, 0x4300);
-    case(0x8300_0020_0021_0022, 0x22, 0x1000000004304);
-    case(0x8300_0020_0021_0022, 0x20, 0x4000000004081);
-    case(0x8300_0020_0021_0022, 0x20, 0x3000000004080);
+// S not 00: 6. R 00, T 00: 7. T 01: 7 where it is a half word.
+fn one_word_refused(code: u64) {
+    short(code, 0x12_01_30);
+    short(code, 0x00_00_30);
+    short(code, 0x12_00_00);
+    short(code, 0x12_00_01);
 }
 
-fn vectors_of_two_2() {
-    case(0x8300_0020_0021_0022, 0x22, 0x4000000004340);
-    case(0x8300_0020_0021_2322, 0x23, 0x43FE);
-    case(0x8300_0020_0021_2322, 0x23, 0x4310);
-    case(0x8300_0020_0021_0022, 0x20, 0x4000000004340);
-    case(0x8300_0020_0021_0022, 0x20, 0x40000000042C0);
-    case(0x8300_0020_0021_0022, 0x20, 0x4000000004300);
-    plain(0x8780_0020_0021_2322);
-    plain(0x8701_0020_0021_2322);
-    plain(0x8740_0020_0021_0022);
-    plain(0x8700_0120_0021_0022);
-    plain(0x8700_0020_0121_0022);
-    plain(0x8700_0000_0021_0022);
-    plain(0x8700_0020_0021_0000);
-    plain(0x8700_0020_0000_0022);
-    case(0x8700_0020_0021_0022, 0x22, 0x4300);
-    case(0x8700_0020_0021_0022, 0x22, 0x1000000004304);
-    case(0x8700_0020_0021_0022, 0x20, 0x4000000004081);
-    case(0x8700_0020_0021_0022, 0x20, 0x3000000004080);
-    case(0x8700_0020_0021_0022, 0x22, 0x4000000004340);
-    case(0x8700_0020_0021_2322, 0x23, 0x43FE);
-    case(0x8700_0020_0021_2322, 0x23, 0x4310);
-    case(0x8700_0020_0021_0022, 0x20, 0x4000000004340);
-    case(0x8700_0020_0021_0022, 0x20, 0x40000000042C0);
-    case(0x8700_0020_0021_0022, 0x20, 0x4000000004300);
-    plain(0x8A80_0020_0021_2322);
-    plain(0x8A01_0020_0021_2322);
-    plain(0x8A40_0020_0021_0022);
-    plain(0x8A00_0120_0021_0022);
-    plain(0x8A00_0020_0121_0022);
-    plain(0x8A00_0000_0021_0022);
-    plain(0x8A00_0020_0021_0000);
-    plain(0x8A00_0020_0000_0022);
-    case(0x8A00_0020_0021_0022, 0x22, 0x4300);
-    case(0x8A00_0020_0021_0022, 0x22, 0x1000000004304);
-    case(0x8A00_0020_0021_0022, 0x20, 0x4000000004081);
-    case(0x8A00_0020_0021_0022, 0x20, 0x3000000004080);
+fn one_word_to_one() {
+    whole(codes::TRUNCATE);
+    whole(codes::FLOOR);
+    whole(codes::CEILING);
+    contracted(codes::CONTRACT);
+    contracted(codes::ROUNDED_CONTRACT);
+    short(codes::TRANSMIT, 0x12_00_30);
+    short(codes::EXPONENT, 0x12_00_30);
+    short(codes::LEFT_16, 0x12_00_30);
+    one_word_refused(codes::TRUNCATE);
+    one_word_refused(codes::FLOOR);
+    one_word_refused(codes::CEILING);
+    one_word_refused(codes::CONTRACT);
+    one_word_refused(codes::ROUNDED_CONTRACT);
+    one_word_refused(codes::TRANSMIT);
+    one_word_refused(codes::EXPONENT);
+    one_word_refused(codes::LEFT_16);
 }
 
-fn vectors_of_two_3() {
-    case(0x8A00_0020_0021_0022, 0x22, 0x4000000004340);
-    case(0x8A00_0020_0021_2322, 0x23, 0x43FE);
-    case(0x8A00_0020_0021_2322, 0x23, 0x4310);
-    case(0x8A00_0020_0021_0022, 0x20, 0x4000000004340);
-    case(0x8A00_0020_0021_0022, 0x20, 0x40000000042C0);
-    case(0x8A00_0020_0021_0022, 0x20, 0x4000000004300);
+// What refuses a vector by its word: G bit 0, G bit 7, G bit 1 with Z 00, X, Y: 6. A 00, C 00: 7. B is register 21 where b says so, and then 00 is 7;
+// where only A is used, any other is 6.
+fn vector_word_refused(code: u64, b: u64, wrong_b: u64) {
+    long(code, b | 0x80_00_20_00_00_23_22);
+    long(code, b | 0x01_00_20_00_00_23_22);
+    long(code, b | 0x40_00_20_00_00_00_22);
+    long(code, b | 0x00_01_20_00_00_00_22);
+    long(code, b | 0x00_00_20_01_00_00_22);
+    long(code, b | 0x00_00_00_00_00_00_22);
+    long(code, b | 0x00_00_20_00_00_00_00);
+    long(code, wrong_b | 0x00_00_20_00_00_00_22);
 }
 
-fn vectors_of_one_1() {
-    plain(0x9000_0020_0000_0022);
-    plain(0x9000_0020_0000_2322);
-    plain(0x9040_0020_0000_2322);
-    plain(0x9010_0020_0000_0022);
-    plain(0x9000_0022_0000_0022);
-    plain(0x9100_0020_0000_0022);
-    plain(0x9100_0020_0000_2322);
-    plain(0x9140_0020_0000_2322);
-    plain(0x9110_0020_0000_0022);
-    plain(0x9100_0022_0000_0022);
-    plain(0x9200_0020_0000_0022);
-    plain(0x9200_0020_0000_2322);
-    plain(0x9240_0020_0000_2322);
-    plain(0x9210_0020_0000_0022);
-    plain(0x9200_0022_0000_0022);
-    plain(0x9800_0020_0000_0022);
-    plain(0x9800_0020_0000_2322);
-    plain(0x9840_0020_0000_2322);
-    plain(0x9810_0020_0000_0022);
-    plain(0x9800_0022_0000_0022);
-    plain(0x9080_0020_0000_2322);
-    plain(0x9001_0020_0000_2322);
-    plain(0x9040_0020_0000_0022);
-    plain(0x9000_0120_0000_0022);
-    plain(0x9000_0020_0100_0022);
-    plain(0x9000_0000_0000_0022);
-    plain(0x9000_0020_0000_0000);
-    plain(0x9000_0020_001F_0022);
-    case(0x9000_0020_0000_0022, 0x22, 0x4300);
-    case(0x9000_0020_0000_0022, 0x22, 0x1000000004304);
-    case(0x9000_0020_0000_0022, 0x20, 0x4000000004081);
-    case(0x9000_0020_0000_0022, 0x20, 0x3000000004080);
-    case(0x9000_0020_0000_0022, 0x22, 0x4000000004340);
-    case(0x9000_0020_0000_2322, 0x23, 0x43FE);
-    case(0x9000_0020_0000_2322, 0x23, 0x4310);
-    case(0x9000_0020_0000_0022, 0x20, 0x4000000004340);
+// What refuses a vector by its fields, which `vector` names, and with a control field where `z` names it too.
+fn vector_fields_refused(code: u64, vector: u64) {
+    let z = 0x23_00;
+    long_with(code, vector, 0x22, 0x0000_0000_0000_4300); // no items: nothing
+    long_with(code, vector, 0x22, 0x0001_0000_0000_4304); // C: 8
+    long_with(code, vector, 0x20, 0x0004_0000_0000_4081); // A: 8
+    long_with(code, vector, 0x20, 0x0003_0000_0000_4080); // A shorter than C: 9
+    long_with(code, vector, 0x22, 0x0004_0000_0000_4340); // C past the end, but of half words: 10
+    long_with(code, vector | z, 0x23, 0x43FE); // control bits past the end: 10
+    long_with(code, vector | z, 0x23, 0x4310); // control bits in C: 11
+    long_with(code, vector, 0x20, 0x0004_0000_0000_4340); // A past the end: 10
+    long_with(code, vector, 0x20, 0x0004_0000_0000_42C0); // A a word before C: 11
+    long_with(code, vector, 0x20, 0x0004_0000_0000_4300); // A is C: 11 of half words alone
 }
 
-fn vectors_of_one_2() {
-    case(0x9000_0020_0000_0022, 0x20, 0x40000000042C0);
-    case(0x9000_0020_0000_0022, 0x20, 0x4000000004300);
-    plain(0x9180_0020_0000_2322);
-    plain(0x9101_0020_0000_2322);
-    plain(0x9140_0020_0000_0022);
-    plain(0x9100_0120_0000_0022);
-    plain(0x9100_0020_0100_0022);
-    plain(0x9100_0000_0000_0022);
-    plain(0x9100_0020_0000_0000);
-    plain(0x9100_0020_001F_0022);
-    case(0x9100_0020_0000_0022, 0x22, 0x4300);
-    case(0x9100_0020_0000_0022, 0x22, 0x1000000004304);
-    case(0x9100_0020_0000_0022, 0x20, 0x4000000004081);
-    case(0x9100_0020_0000_0022, 0x20, 0x3000000004080);
-    case(0x9100_0020_0000_0022, 0x22, 0x4000000004340);
-    case(0x9100_0020_0000_2322, 0x23, 0x43FE);
-    case(0x9100_0020_0000_2322, 0x23, 0x4310);
-    case(0x9100_0020_0000_0022, 0x20, 0x4000000004340);
-    case(0x9100_0020_0000_0022, 0x20, 0x40000000042C0);
-    case(0x9100_0020_0000_0022, 0x20, 0x4000000004300);
-    plain(0x9280_0020_0000_2322);
-    plain(0x9201_0020_0000_2322);
-    plain(0x9240_0020_0000_0022);
-    plain(0x9200_0120_0000_0022);
-    plain(0x9200_0020_0100_0022);
-    plain(0x9200_0000_0000_0022);
-    plain(0x9200_0020_0000_0000);
-    plain(0x9200_0020_001F_0022);
-    case(0x9200_0020_0000_0022, 0x22, 0x4300);
-    case(0x9200_0020_0000_0022, 0x22, 0x1000000004304);
-    case(0x9200_0020_0000_0022, 0x20, 0x4000000004081);
-    case(0x9200_0020_0000_0022, 0x20, 0x3000000004080);
-    case(0x9200_0020_0000_0022, 0x22, 0x4000000004340);
-    case(0x9200_0020_0000_2322, 0x23, 0x43FE);
-    case(0x9200_0020_0000_2322, 0x23, 0x4310);
-    case(0x9200_0020_0000_0022, 0x20, 0x4000000004340);
+// All items; where a control bit is one; G bit 1, where it is zero; G bit 3, register A itself; G bit 4, register B; all three. Then B is C, and A too.
+fn two_sources(code: u64) {
+    long(code, 0x00_00_20_00_21_00_22);
+    long(code, 0x00_00_20_00_21_23_22);
+    long(code, 0x40_00_20_00_21_23_22);
+    long(code, 0x10_00_20_00_21_00_22);
+    long(code, 0x08_00_20_00_21_23_22);
+    long(code, 0x58_00_20_00_21_23_22);
+    long(code, 0x00_00_20_00_22_00_22);
+    long(code, 0x00_00_22_00_22_00_22);
 }
 
-fn vectors_of_one_3() {
-    case(0x9200_0020_0000_0022, 0x20, 0x40000000042C0);
-    case(0x9200_0020_0000_0022, 0x20, 0x4000000004300);
-    plain(0x9880_0020_0000_2322);
-    plain(0x9801_0020_0000_2322);
-    plain(0x9840_0020_0000_0022);
-    plain(0x9800_0120_0000_0022);
-    plain(0x9800_0020_0100_0022);
-    plain(0x9800_0000_0000_0022);
-    plain(0x9800_0020_0000_0000);
-    plain(0x9800_0020_001F_0022);
-    case(0x9800_0020_0000_0022, 0x22, 0x4300);
-    case(0x9800_0020_0000_0022, 0x22, 0x1000000004304);
-    case(0x9800_0020_0000_0022, 0x20, 0x4000000004081);
-    case(0x9800_0020_0000_0022, 0x20, 0x3000000004080);
-    case(0x9800_0020_0000_0022, 0x22, 0x4000000004340);
-    case(0x9800_0020_0000_2322, 0x23, 0x43FE);
-    case(0x9800_0020_0000_2322, 0x23, 0x4310);
-    case(0x9800_0020_0000_0022, 0x20, 0x4000000004340);
-    case(0x9800_0020_0000_0022, 0x20, 0x40000000042C0);
-    case(0x9800_0020_0000_0022, 0x20, 0x4000000004300);
+fn two_sources_refused(code: u64) {
+    vector_word_refused(code, 0x21_00_00, 0x00_00_00);
+    vector_fields_refused(code, 0x00_00_20_00_21_00_22);
 }
 
-fn vectors_contracted_1() {
-    plain(0x9600_0020_0000_0024);
-    plain(0x9600_0020_0000_2324);
-    plain(0x9640_0020_0000_2324);
-    plain(0x9700_0020_0000_0024);
-    plain(0x9700_0020_0000_2324);
-    plain(0x9740_0020_0000_2324);
-    plain(0x9680_0020_0000_2322);
-    plain(0x9601_0020_0000_2322);
-    plain(0x9640_0020_0000_0022);
-    plain(0x9600_0120_0000_0022);
-    plain(0x9600_0020_0100_0022);
-    plain(0x9600_0000_0000_0022);
-    plain(0x9600_0020_0000_0000);
-    plain(0x9600_0020_001F_0022);
-    case(0x9600_0020_0000_0022, 0x22, 0x4300);
-    case(0x9600_0020_0000_0022, 0x22, 0x1000000004304);
-    case(0x9600_0020_0000_0022, 0x20, 0x4000000004081);
-    case(0x9600_0020_0000_0022, 0x20, 0x3000000004080);
-    case(0x9600_0020_0000_0022, 0x22, 0x4000000004340);
-    case(0x9600_0020_0000_2322, 0x23, 0x43FE);
-    case(0x9600_0020_0000_2322, 0x23, 0x4310);
-    case(0x9600_0020_0000_0022, 0x20, 0x4000000004340);
-    case(0x9600_0020_0000_0022, 0x20, 0x40000000042C0);
-    case(0x9600_0020_0000_0022, 0x20, 0x4000000004300);
-    plain(0x9780_0020_0000_2322);
-    plain(0x9701_0020_0000_2322);
-    plain(0x9740_0020_0000_0022);
-    plain(0x9700_0120_0000_0022);
-    plain(0x9700_0020_0100_0022);
-    plain(0x9700_0000_0000_0022);
-    plain(0x9700_0020_0000_0000);
-    plain(0x9700_0020_001F_0022);
-    case(0x9700_0020_0000_0022, 0x22, 0x4300);
-    case(0x9700_0020_0000_0022, 0x22, 0x1000000004304);
-    case(0x9700_0020_0000_0022, 0x20, 0x4000000004081);
-    case(0x9700_0020_0000_0022, 0x20, 0x3000000004080);
+fn vectors_of_two() {
+    two_sources(codes::VECTOR_ADD);
+    two_sources(codes::VECTOR_SUBTRACT);
+    two_sources(codes::VECTOR_SHIFT);
+    two_sources_refused(codes::VECTOR_ADD);
+    two_sources_refused(codes::VECTOR_SUBTRACT);
+    two_sources_refused(codes::VECTOR_SHIFT);
 }
 
-fn vectors_contracted_2() {
-    case(0x9700_0020_0000_0022, 0x22, 0x4000000004340);
-    case(0x9700_0020_0000_2322, 0x23, 0x43FE);
-    case(0x9700_0020_0000_2322, 0x23, 0x4310);
-    case(0x9700_0020_0000_0022, 0x20, 0x4000000004340);
-    case(0x9700_0020_0000_0022, 0x20, 0x40000000042C0);
-    case(0x9700_0020_0000_0022, 0x20, 0x4000000004300);
+// All items; where a control bit is one; G bit 1, where it is zero; G bit 3, register A itself. Then A is C.
+fn one_source(code: u64) {
+    long(code, 0x00_00_20_00_00_00_22);
+    long(code, 0x00_00_20_00_00_23_22);
+    long(code, 0x40_00_20_00_00_23_22);
+    long(code, 0x10_00_20_00_00_00_22);
+    long(code, 0x00_00_22_00_00_00_22);
 }
 
-fn branches_1() {
-    plain(0xB000_0000_001E_0030);
-    plain(0xB000_1D12_001E_1D30);
-    plain(0xB000_0011_001E_0030);
-    plain(0xB008_0000_001E_0030);
-    plain(0xB008_1D12_001E_1D30);
-    plain(0xB008_0011_001E_0030);
-    plain(0xB100_0000_001E_0030);
-    plain(0xB100_1D12_001E_1D30);
-    plain(0xB100_0011_001E_0030);
-    plain(0xB108_0000_001E_0030);
-    plain(0xB108_1D12_001E_1D30);
-    plain(0xB108_0011_001E_0030);
-    plain(0xB200_0000_001E_0030);
-    plain(0xB200_1D12_001E_1D30);
-    plain(0xB200_0011_001E_0030);
-    plain(0xB208_0000_001E_0030);
-    plain(0xB208_1D12_001E_1D30);
-    plain(0xB208_0011_001E_0030);
-    plain(0xB300_0000_001E_0030);
-    plain(0xB300_1D12_001E_1D30);
-    plain(0xB300_0011_001E_0030);
-    plain(0xB308_0000_001E_0030);
-    plain(0xB308_1D12_001E_1D30);
-    plain(0xB308_0011_001E_0030);
-    plain(0xB400_0000_001E_0030);
-    plain(0xB400_1D12_001E_1D30);
-    plain(0xB400_0011_001E_0030);
-    plain(0xB408_0000_001E_0030);
-    plain(0xB408_1D12_001E_1D30);
-    plain(0xB408_0011_001E_0030);
-    plain(0xB500_0000_001E_0030);
-    plain(0xB500_1D12_001E_1D30);
-    plain(0xB500_0011_001E_0030);
-    plain(0xB508_0000_001E_0030);
-    plain(0xB508_1D12_001E_1D30);
-    plain(0xB508_0011_001E_0030);
+fn one_source_refused(code: u64) {
+    vector_word_refused(code, 0x00_00_00, 0x1F_00_00);
+    vector_fields_refused(code, 0x00_00_20_00_00_00_22);
 }
 
-fn branches_2() {
-    plain(0xB100_1D10_1D1A_0030);
-    plain(0xB080_0011_001E_0030);
-    plain(0xB004_0011_001E_0030);
-    plain(0xB000_0011_0000_0030);
-    plain(0xB000_0011_001E_0000);
-    case(0xB000_0000_001E_0030, 0x1E, 0x4041);
-    case(0xB000_0000_001E_0030, 0x1E, 0x9000);
-    plain(0xB180_0011_001E_0030);
-    plain(0xB104_0011_001E_0030);
-    plain(0xB100_0011_0000_0030);
-    plain(0xB100_0011_001E_0000);
-    case(0xB100_0000_001E_0030, 0x1E, 0x4041);
-    case(0xB100_0000_001E_0030, 0x1E, 0x9000);
-    plain(0xB280_0011_001E_0030);
-    plain(0xB204_0011_001E_0030);
-    plain(0xB200_0011_0000_0030);
-    plain(0xB200_0011_001E_0000);
-    case(0xB200_0000_001E_0030, 0x1E, 0x4041);
-    case(0xB200_0000_001E_0030, 0x1E, 0x9000);
-    plain(0xB380_0011_001E_0030);
-    plain(0xB304_0011_001E_0030);
-    plain(0xB300_0011_0000_0030);
-    plain(0xB300_0011_001E_0000);
-    case(0xB300_0000_001E_0030, 0x1E, 0x4041);
-    case(0xB300_0000_001E_0030, 0x1E, 0x9000);
-    plain(0xB480_0011_001E_0030);
-    plain(0xB404_0011_001E_0030);
-    plain(0xB400_0011_0000_0030);
-    plain(0xB400_0011_001E_0000);
-    case(0xB400_0000_001E_0030, 0x1E, 0x4041);
-    case(0xB400_0000_001E_0030, 0x1E, 0x9000);
-    plain(0xB580_0011_001E_0030);
-    plain(0xB504_0011_001E_0030);
-    plain(0xB500_0011_0000_0030);
-    plain(0xB500_0011_001E_0000);
-    case(0xB500_0000_001E_0030, 0x1E, 0x4041);
+fn vectors_of_one() {
+    one_source(codes::VECTOR_TRUNCATE);
+    one_source(codes::VECTOR_FLOOR);
+    one_source(codes::VECTOR_CEILING);
+    one_source(codes::VECTOR_TRANSMIT);
+    one_source_refused(codes::VECTOR_TRUNCATE);
+    one_source_refused(codes::VECTOR_FLOOR);
+    one_source_refused(codes::VECTOR_CEILING);
+    one_source_refused(codes::VECTOR_TRANSMIT);
 }
 
-fn branches_3() {
-    case(0xB500_0000_001E_0030, 0x1E, 0x9000);
-    case(0xB000_1D10_001E_1D30, 0x1E, 0x4041);
-    case(0xB000_1D12_001E_1D30, 0x1E, 0x4041);
-    case(0xB100_1D10_001E_1D30, 0x1E, 0x4041);
-    case(0xB100_1D12_001E_1D30, 0x1E, 0x4041);
-    case(0xB200_1D10_001E_1D30, 0x1E, 0x4041);
-    case(0xB200_1D12_001E_1D30, 0x1E, 0x4041);
-    case(0xB300_1D10_001E_1D30, 0x1E, 0x4041);
-    case(0xB300_1D12_001E_1D30, 0x1E, 0x4041);
-    case(0xB400_1D10_001E_1D30, 0x1E, 0x4041);
-    case(0xB400_1D12_001E_1D30, 0x1E, 0x4041);
-    case(0xB500_1D10_001E_1D30, 0x1E, 0x4041);
-    case(0xB500_1D12_001E_1D30, 0x1E, 0x4041);
+// All items; where a control bit is one; G bit 1, where it is zero.
+fn half_words(code: u64) {
+    long(code, 0x00_00_20_00_00_00_24);
+    long(code, 0x00_00_20_00_00_23_24);
+    long(code, 0x40_00_20_00_00_23_24);
+}
+
+fn vectors_contracted() {
+    half_words(codes::VECTOR_CONTRACT);
+    half_words(codes::VECTOR_ROUNDED_CONTRACT);
+    one_source_refused(codes::VECTOR_CONTRACT);
+    one_source_refused(codes::VECTOR_ROUNDED_CONTRACT);
+}
+
+// A, X and Z 00, which is 0 against 0 (01's example 13 in B0); -3 + 1 against 1; -1 against 0 (01's example 14 in B3). Then the same unsigned, G bit 4.
+// The exit at 42A0 is next where the branch is taken, the one at 4040 where it is not.
+fn compared(code: u64) {
+    long(code, 0x00_00_00_00_1E_00_30);
+    long(code, 0x00_1D_12_00_1E_1D_30);
+    long(code, 0x00_00_11_00_1E_00_30);
+    long(code, 0x08_00_00_00_1E_00_30);
+    long(code, 0x08_1D_12_00_1E_1D_30);
+    long(code, 0x08_00_11_00_1E_00_30);
+}
+
+// G bit 0, G bit 5: 6. B 00, C 00: 7. A target that is no multiple of 32: 8 where it is taken. A target that is not in memory: 4 behind it.
+fn branch_refused(code: u64) {
+    long(code, 0x80_00_11_00_1E_00_30);
+    long(code, 0x04_00_11_00_1E_00_30);
+    long(code, 0x00_00_11_00_00_00_30);
+    long(code, 0x00_00_11_00_1E_00_00);
+    long_with(code, 0x00_00_00_00_1E_00_30, 0x1E, 0x4041);
+    long_with(code, 0x00_00_00_00_1E_00_30, 0x1E, 0x9000);
+}
+
+// A sum above Z, and one below it: 8 where the branch is taken.
+fn misaligned_where_taken(code: u64) {
+    long_with(code, 0x00_1D_10_00_1E_1D_30, 0x1E, 0x4041);
+    long_with(code, 0x00_1D_12_00_1E_1D_30, 0x1E, 0x4041);
+}
+
+// Between them a target with one half word: 40A0, where no listed code stands.
+fn branches() {
+    compared(codes::BRANCH_EQ);
+    compared(codes::BRANCH_NE);
+    compared(codes::BRANCH_GE);
+    compared(codes::BRANCH_LT);
+    compared(codes::BRANCH_LE);
+    compared(codes::BRANCH_GT);
+    long(codes::BRANCH_NE, 0x00_1D_10_1D_1A_00_30);
+    branch_refused(codes::BRANCH_EQ);
+    branch_refused(codes::BRANCH_NE);
+    branch_refused(codes::BRANCH_GE);
+    branch_refused(codes::BRANCH_LT);
+    branch_refused(codes::BRANCH_LE);
+    branch_refused(codes::BRANCH_GT);
+    misaligned_where_taken(codes::BRANCH_EQ);
+    misaligned_where_taken(codes::BRANCH_NE);
+    misaligned_where_taken(codes::BRANCH_GE);
+    misaligned_where_taken(codes::BRANCH_LT);
+    misaligned_where_taken(codes::BRANCH_LE);
+    misaligned_where_taken(codes::BRANCH_GT);
 }
 
 fn move_bytes() {
-    plain(0xF800_0029_002E_002A);
-    plain(0xF800_1D29_002E_1D2A);
-    plain(0xF801_0029_002E_002A);
-    plain(0xF800_0029_012E_002A);
-    plain(0xF800_0000_002E_002A);
-    plain(0xF800_0029_002E_0000);
-    case(0xF800_0029_002E_002A, 0x2A, 0x4300);
-    case(0xF800_0029_002E_002A, 0x2A, 0x5000000004301);
-    case(0xF800_0029_002E_002A, 0x29, 0x5000000004081);
-    case(0xF800_0029_002E_002A, 0x29, 0x4081);
-    case(0xF800_0029_002E_002A, 0x2A, 0xC0000000043F0);
-    case(0xF800_0029_002E_002A, 0x29, 0x5000000003FE0);
-    case(0xF800_0029_002E_002A, 0x29, 0x5000000004358);
-    case(0xF800_0029_002E_002A, 0x2A, 0xC000000004090);
-}
-
-// The left half of a 64-bit word stands in the last half word of memory, so the word is not all there: 4.
-fn cut_off(half_word: u64) {
-    let mut m = [0u8; 128];
-    let mut registers = [0u64; 256];
-    of_runs::put(&mut m, 120, half_word);
-    let r = calls::run(&mut m, &mut registers, Record::between(0x43E0, 0), 200);
-    tell(half_word, 0, 0, r);
-    lines::text(b"\n");
+    long(codes::MOVE, 0x00_00_29_00_2E_00_2A); // five bytes to twelve, filled with 2E
+    long(codes::MOVE, 0x00_1D_29_00_2E_1D_2A); // both a byte later
+    long(codes::MOVE, 0x01_00_29_00_2E_00_2A); // G: 6
+    long(codes::MOVE, 0x00_00_29_01_2E_00_2A); // Y: 6
+    long(codes::MOVE, 0x00_00_00_00_2E_00_2A); // A 00: 7
+    long(codes::MOVE, 0x00_00_29_00_2E_00_00); // C 00: 7
+    let word = 0x00_00_29_00_2E_00_2A;
+    long_with(codes::MOVE, word, 0x2A, 0x0000_0000_0000_4300); // no items: nothing
+    long_with(codes::MOVE, word, 0x2A, 0x0005_0000_0000_4301); // C: 8
+    long_with(codes::MOVE, word, 0x29, 0x0005_0000_0000_4081); // A: 8
+    long_with(codes::MOVE, word, 0x29, 0x0000_0000_0000_4081); // A empty, and not checked
+    long_with(codes::MOVE, word, 0x2A, 0x000C_0000_0000_43F0); // C past the end: 10
+    long_with(codes::MOVE, word, 0x29, 0x0005_0000_0000_3FE0); // A from the register file on: 10
+    long_with(codes::MOVE, word, 0x29, 0x0005_0000_0000_4358); // A in C: 11
+    long_with(codes::MOVE, word, 0x2A, 0x000C_0000_0000_4090); // C over A: 11
 }
 
 fn all_cut_off() {
-    cut_off(0x8300_0020);
-    cut_off(0x8700_0020);
-    cut_off(0x8A00_0020);
-    cut_off(0x9000_0020);
-    cut_off(0x9100_0020);
-    cut_off(0x9200_0020);
-    cut_off(0x9600_0020);
-    cut_off(0x9700_0020);
-    cut_off(0x9800_0020);
-    cut_off(0xB000_0020);
-    cut_off(0xB100_0020);
-    cut_off(0xB200_0020);
-    cut_off(0xB300_0020);
-    cut_off(0xB400_0020);
-    cut_off(0xB500_0020);
-    cut_off(0xF800_0020);
+    cut_off(codes::VECTOR_ADD);
+    cut_off(codes::VECTOR_SUBTRACT);
+    cut_off(codes::VECTOR_SHIFT);
+    cut_off(codes::VECTOR_TRUNCATE);
+    cut_off(codes::VECTOR_FLOOR);
+    cut_off(codes::VECTOR_CEILING);
+    cut_off(codes::VECTOR_CONTRACT);
+    cut_off(codes::VECTOR_ROUNDED_CONTRACT);
+    cut_off(codes::VECTOR_TRANSMIT);
+    cut_off(codes::BRANCH_EQ);
+    cut_off(codes::BRANCH_NE);
+    cut_off(codes::BRANCH_GE);
+    cut_off(codes::BRANCH_LT);
+    cut_off(codes::BRANCH_LE);
+    cut_off(codes::BRANCH_GT);
+    cut_off(codes::MOVE);
 }
 
 // All of them, family by family.
@@ -654,22 +318,13 @@ pub fn every_code() {
     exit_and_codes_not_listed();
     load_and_store();
     counts_that_wrap();
-    compress_merge_mask_1();
-    compress_merge_mask_2();
+    compress_merge_mask();
     two_words_to_one();
-    one_word_to_one_1();
-    one_word_to_one_2();
-    vectors_of_two_1();
-    vectors_of_two_2();
-    vectors_of_two_3();
-    vectors_of_one_1();
-    vectors_of_one_2();
-    vectors_of_one_3();
-    vectors_contracted_1();
-    vectors_contracted_2();
-    branches_1();
-    branches_2();
-    branches_3();
+    one_word_to_one();
+    vectors_of_two();
+    vectors_of_one();
+    vectors_contracted();
+    branches();
     move_bytes();
     all_cut_off();
 }
