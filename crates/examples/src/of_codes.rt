@@ -51,7 +51,8 @@ fn counts_that_wrap() {
     short(codes::STORE_WORD, 0x1C_12_11);
 }
 
-// r, n and s zero. T past the end, R in the register file, S past the end and in the register file where it is read: 10. T over R, S over T where it is read: 11.
+// r, n and s zero. T past the end, R in the register file, S past the end and in the register file where it is read: 10. T over R, and over S where it is
+// read: 11.
 fn bit_fields_at_the_ends(code: u64) {
     designators_00(code, 0x25_26_27);
     short_with(code, 0x25_26_27, 0x25, 0x0000_0000_0000_4080);
@@ -153,12 +154,12 @@ fn vector_fields_refused(code: u64, vector: u64) {
     long_with(code, vector, 0x22, 0x0001_0000_0000_4304); // C: 8
     long_with(code, vector, 0x20, 0x0004_0000_0000_4081); // A: 8
     long_with(code, vector, 0x20, 0x0003_0000_0000_4080); // A shorter than C: 9
-    long_with(code, vector, 0x22, 0x0004_0000_0000_4340); // C past the end, but of half words: 10
+    long_with(code, vector, 0x22, 0x0004_0000_0000_4340); // C past the end: 10, but not of half words
     long_with(code, vector | z, 0x23, 0x43FE); // control bits past the end: 10
     long_with(code, vector | z, 0x23, 0x4310); // control bits in C: 11
     long_with(code, vector, 0x20, 0x0004_0000_0000_4340); // A past the end: 10
     long_with(code, vector, 0x20, 0x0004_0000_0000_42C0); // A a word before C: 11
-    long_with(code, vector, 0x20, 0x0004_0000_0000_4300); // A is C: 11 of half words alone
+    long_with(code, vector, 0x20, 0x0004_0000_0000_4300); // A is C: 11, but not of words
 }
 
 // All items; where a control bit is one; G bit 1, where it is zero; G bit 3, register A itself; G bit 4, register B; all three. Then B is C, and A too.
@@ -237,7 +238,7 @@ fn compared(code: u64) {
     long(code, 0x08_00_11_00_1E_00_30);
 }
 
-// G bit 0, G bit 5: 6. B 00, C 00: 7. A target that is no multiple of 32: 8 where it is taken. A target that is not in memory: 4 behind it.
+// G bit 0, G bit 5: 6. B 00, C 00: 7. Where 0 against 0 is taken, a target that is no multiple of 32: 8, and one that is not in memory: 4 after the step.
 fn branch_refused(code: u64) {
     long(code, 0x80_00_11_00_1E_00_30);
     long(code, 0x04_00_11_00_1E_00_30);

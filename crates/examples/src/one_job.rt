@@ -26,7 +26,7 @@ fn more_sources(m: &mut [u8]) {
     of_runs::put(m, 64, 0xFF77_0000_0000_0001); // too small to contract
     of_runs::put(m, 72, 0x0000_0000_0000_00FF); // a shift right by 1
     of_runs::put(m, 80, 0xB4C3_0000_0900_0000); // control bits, and an exit
-    of_runs::put(m, 88, 0x1234_0000_0000_0005);
+    of_runs::put(m, 88, 0x1234_0000_0000_0005); // the word before the results
 }
 
 // From 4300 on, where the word is zero.

@@ -23,8 +23,8 @@ pub fn reservoir() -> Lent {
     memory::write_word(&mut m, BitAddress(0x4140), 100);
     memory::write_word(&mut m, BitAddress(0x4180), 200);
     memory::write_word(&mut m, BitAddress(0x41C0), 300);
-    registers[0x10] = 0x0003_0000_0000_4080;
-    registers[0x11] = 0x0003_0000_0000_4140;
+    registers[0x10] = 0x0003_0000_0000_4080; // the inflow, three words
+    registers[0x11] = 0x0003_0000_0000_4140; // the storage
     Lent { m, registers }
 }
 
@@ -35,8 +35,8 @@ pub fn own_word() -> Lent {
     memory::write_word(&mut m, BitAddress(0x4000), VECTOR_TRANSMIT);
     memory::write_word(&mut m, BitAddress(0x4040), VECTOR_TRANSMIT);
     memory::write_word(&mut m, BitAddress(0x4080), EXIT);
-    registers[0x10] = 0x0002_0000_0000_4100;
-    registers[0x11] = 0x0002_0000_0000_4000;
+    registers[0x10] = 0x0002_0000_0000_4100; // two words of zero
+    registers[0x11] = 0x0002_0000_0000_4000; // the instruction and the word behind it
     Lent { m, registers }
 }
 
@@ -57,12 +57,12 @@ pub fn past_the_end() -> Lent {
     memory::write_word(&mut m, BitAddress(0x4040), BRANCH);
     memory::write_word(&mut m, BitAddress(0x4080), EXIT);
     memory::write_word(&mut m, BitAddress(0x40C0), LOAD);
-    registers[0x10] = 0x0057_7FFF_FFFF_FFFF;
-    registers[0x11] = 0x1111_0000_0000_0003;
-    registers[0x12] = 0x2222_FFFF_FFFF_FFFE;
-    registers[0x13] = 0x0000_0000_0000_40C0;
-    registers[0x14] = 0x0000_0000_0000_0002;
-    registers[0x15] = 0x0000_0000_0000_4000;
-    registers[0x16] = 0x0000_0000_0000_0008;
+    registers[0x10] = 0x0057_7FFF_FFFF_FFFF; // the largest number that can be contracted, which rounds out of the range
+    registers[0x11] = 0x1111_0000_0000_0003; // 3
+    registers[0x12] = 0x2222_FFFF_FFFF_FFFE; // -2
+    registers[0x13] = 0x0000_0000_0000_40C0; // the load's address
+    registers[0x14] = 0x0000_0000_0000_0002; // the sum is 1
+    registers[0x15] = 0x0000_0000_0000_4000; // where the memory begins
+    registers[0x16] = 0x0000_0000_0000_0008; // how many words it has
     Lent { m, registers }
 }

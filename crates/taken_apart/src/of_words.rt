@@ -267,8 +267,8 @@ fn no_meaning() {
     refused_word(0xB008_2123_2500_292B); // B of a branch
     refused_word(0xB008_2123_2527_2900); // C of a branch
     refused_word(0xF800_2100_0025_2729); // A of a move
-    refused_word(0x7000_0100_0000_0000);
-    refused_word(0x8380_0000_0000_0000);
+    refused_word(0x7000_0100_0000_0000); // R and T, and S is 01
+    refused_word(0x8380_0000_0000_0000); // A, B and C, and G bit 0 is one
 }
 
 pub fn refused() {
