@@ -9,8 +9,8 @@ use Rattle.fields.specs.declared.extents.Unit as U
 use Rattle.fields.specs.declared.extents.Field.{Field}
 use Rattle.fields.specs.declared.units.BitAddress.{BitAddress}
 use Rattle.fields.specs.declared.units.BitCount.{BitCount}
-use Rattle.fields.specs.Units.{shiftedBy}
-use Rattle.fields.specs.Extents.{shiftOf, widthOf, fieldOf, aligned, inside, shares, inPlace}
+use Rattle.fields.specs.Units.{inBits}
+use Rattle.fields.specs.Extents.{unitShift, widthOf, fieldOf, aligned, inside, shares, inPlace}
 
 -- two comparisons that hold together are the same test
 pub same-test : (a b c d : ℕ) → (a ≤ b → c ≤ d) → (c ≤ d → a ≤ b) → leb a b ≡ leb c d
@@ -23,7 +23,7 @@ same-test a b c d to from = go (leb a b) (leb c d) refl refl
     go false true p q = let h : a ≤ b = from (leb-true c d q) in let g : b < a = leb-false a b p in absurd (omega arith)
 
 -- a field made of a count's bits
-pub made : (u : U.Unit) (base : BitAddress) (bits : BitCount) (items : ℕ) → bits .0 ≡ shiftedBy (shiftOf u) items → _≡_ {A = Field} (record { base = base; bits = bits; unit = u }) (fieldOf u base items)
+pub made : (u : U.Unit) (base : BitAddress) (bits : BitCount) (items : ℕ) → bits .0 ≡ inBits (unitShift u) items → _≡_ {A = Field} (record { base = base; bits = bits; unit = u }) (fieldOf u base items)
 made u base bits items e = ap (λ (n : ℕ). record { base = base; bits = record { 0 = n }; unit = u }) e
 
 module _ (f : Field) where

@@ -8,11 +8,11 @@ use Rattle.fields.specs.declared.extents.Unit.the-variants.{Bit, Byte, H
 use Rattle.fields.specs.declared.extents.Field.{Field}
 use Rattle.fields.specs.declared.gathers.Runs.{Runs}
 use Rattle.fields.specs.Field.{field, store}
-use Rattle.fields.specs.Units.{shiftedBy, formed}
+use Rattle.fields.specs.Units.{inBits, formed}
 use Rattle.fields.specs.Memory.{fieldAt, rightLength}
-use Rattle.fields.specs.InTurn.{inTurn}
 use Rattle.fields.specs.Extents.{fieldOf, absentField, aligned, inside, shares, inPlace}
 use Rattle.fields.specs.Gathers.{furthest, compressR, mergeR, mergeS, maskR, maskS}
+use Rattle.fields.proofs.Turns.{inTurn}
 
 abbrev at : ℕ → ℕ → U.Unit → Field
 at base items u = fieldOf u (record { 0 = base }) items
@@ -25,7 +25,7 @@ pub record Corners : Type 0 where
   pub held : (fieldAt (0xab ∷ 0xcd ∷ []) 0x4004 8 ∷ fieldAt (0x80 ∷ 0x02 ∷ []) 0x4000 1 ∷ fieldAt (0x80 ∷ 0x02 ∷ []) 0x400f 1 ∷ []) ≡ (0xbc ∷ 1 ∷ 0 ∷ [])
   pub stored : store 32 8 8 0xff 0x01_02_03_04 ≡ 0x01_ff_03_04
   -- three words in bits; an address that wraps
-  pub counted : (shiftedBy 6 3 ∷ formed 0xffff_ffff_ffff 1 ∷ []) ≡ (192 ∷ 0 ∷ [])
+  pub counted : (inBits 6 3 ∷ formed 0xffff_ffff_ffff 1 ∷ []) ≡ (192 ∷ 0 ∷ [])
   pub lengths : (rightLength 65536 ∷ rightLength 0 ∷ rightLength 12 ∷ []) ≡ (true ∷ false ∷ false ∷ [])
   -- each of four bytes plus one, in place
   pub in-turn : inTurn 32 0 8 (λ i x. (field 32 (0 + i * 8) 8 x + 1) % 256) 4 0x01_02_ff_04 ≡ 0x02_03_00_05

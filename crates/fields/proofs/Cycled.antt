@@ -10,7 +10,7 @@ use lib.Dec.{ltb, leb}
 use borrow.Author.Tests.{ltb-true, ltb-false, le-ltb, lt-ltb, leb-true, le-leb, lt-leb}
 use Rattle.fields.specs.declared.gathers.Cycles.{Cycles}
 use Rattle.fields.specs.Gathers.{furthest}
-use Rattle.fields.specs.Cycles.{pastAt, pastOf, Regular, Allowed}
+use Rattle.fields.specs.Private.Cycles.{pastAt, pastOf, Regular, Allowed}
 use Rattle.fields.proofs.Furthest.{Hit, largest-is, at-most}
 
 -- ---- what an item gives, by its place

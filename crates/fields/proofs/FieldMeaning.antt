@@ -13,7 +13,7 @@ use Rattle.fields.specs.declared.extents.Unit.the-variants.{Bit, Byte, H
 use Rattle.fields.specs.declared.extents.Field.{Field}
 use Rattle.fields.specs.declared.units.BitAddress.{BitAddress}
 use Rattle.fields.specs.Field.{Apart}
-use Rattle.fields.specs.Extents.{shiftOf, widthOf, fieldOf, endOf, aligned, inside, shares, inPlace}
+use Rattle.fields.specs.Extents.{unitShift, widthOf, fieldOf, endOf, aligned, inside, shares, inPlace}
 
 -- bit address x is one of the field's
 abbrev pub Within : Field → ℕ → Type 0
@@ -160,10 +160,6 @@ module _ (f g : Field) where
       let w : widthOf (f .unit) ≡ 64 = eqb-true _ _ (b .0) in
       (w, (sym (eqb-true _ _ (a .0)) ∙ w, eqb-true _ _ (b .1)))
 
--- the order of the two does not matter
-pub shares-swapped : (f g : Field) → shares f g ≡ true → shares g f ≡ true
-shares-swapped f g e = let k : Common f g = shares-common f g .0 e in shares-common g f .1 (record { bit = k .bit; in-first = k .in-second; in-second = k .in-first })
-
 -- ---- "one that nothing is read from is empty and is not checked under 8, 10 or 11"
 
 module _ (f : Field) (h : f .bits .0 ≡ 0) where
@@ -173,7 +169,7 @@ module _ (f : Field) (h : f .bits .0 ≡ 0) where
 
 -- ---- the makers
 
-pub width-shift : (u : U.Unit) → 2 ^ shiftOf u ≡ widthOf u
+pub width-shift : (u : U.Unit) → 2 ^ unitShift u ≡ widthOf u
 width-shift Bit = refl
 width-shift Byte = refl
 width-shift HalfWord = refl
@@ -190,15 +186,6 @@ module _ (u : U.Unit) (base : BitAddress) (items : ℕ) where
   pub all-bits : items * widthOf u < 2 ^ 48 → fieldOf u base items .bits .0 ≡ items * widthOf u
   all-bits h = rw (width-shift u) (mod-eq-of-lt h)
 
-  -- .. as those of every length do; and then its end is below 2 ^ 49, whatever its base
+  -- .. as those of every length do
   pub length-fits : items ≤ 65535 → items * widthOf u ≤ 4194240
   length-fits h = mul-le-mul {n₁ = items} {m₁ = widthOf u} {n₂ = 65535} {m₂ = 64} h (width-le u)
-
-  pub end-low : items ≤ 65535 → base .0 < 2 ^ 48 → endOf (fieldOf u base items) < 2 ^ 49
-  end-low h l = let k : items * widthOf u ≤ 4194240 = length-fits h in rw (all-bits (omega arith)) (omega arith)
-
-  -- item k lies in it
-  pub item-within : (k : ℕ) → k < items → items * widthOf u < 2 ^ 48 → base .0 + (k * widthOf u + widthOf u) ≤ endOf (fieldOf u base items)
-  item-within k l h =
-      let s : k * widthOf u + widthOf u ≤ items * widthOf u = rw (← suc-mul k (widthOf u)) (mul-le-mul-right (widthOf u) l) in
-      rw (all-bits h) (omega arith)

@@ -9,8 +9,8 @@ use lib.Dec.{eqb, ltb}
 use borrow.Author.Tests.{ltb-true, ltb-false, lt-ltb, eqb-false}
 use Rattle.fields.specs.declared.gathers.Runs.{Runs}
 use Rattle.fields.specs.declared.gathers.Cycles.{Cycles}
-use Rattle.fields.specs.Gathers.{Taken, ofR, ofS, compress, place, merge, mask, compressItems, mergeItems, pastR, pastS, furthest, compressR, mergeR, mergeS, maskR, maskS}
-use Rattle.fields.specs.Cycles.{pastAt, pastOf, Regular, Allowed}
+use Rattle.fields.specs.Gathers.{SourceBit, ofR, ofS, compressTakes, inPeriod, mergeTakes, maskTakes, compressItems, mergeItems, pastR, pastS, furthest, compressR, mergeR, mergeS, maskR, maskS}
+use Rattle.fields.specs.Private.Cycles.{pastAt, pastOf, Regular, Allowed}
 use Rattle.fields.proofs.Furthest.{Hit, covers, reached, at-most, same-furthest}
 use Rattle.fields.proofs.Cycled.{reads, too-early, too-late, low}
 
@@ -58,7 +58,7 @@ module _ {T : Cycles} {items extent : ℕ} (shape : Shape T items extent) where
   shape-low = rw (← shape .same) (low T items (shape .may))
 
 -- an item before n that takes x
-pub record Takes (take : ℕ → Taken) (n : ℕ) (x : Taken) : Type 0 where
+pub record Takes (take : ℕ → SourceBit) (n : ℕ) (x : SourceBit) : Type 0 where
   pub item : ℕ
   pub below : item < n
   pub takes : take item ≡ x
@@ -119,7 +119,7 @@ module _ (t : Runs) where
 
   compress-same : furthest (pastOf compress-cycles) (compressItems t) ≡ compressR t
   compress-same =
-      same-furthest (pastOf compress-cycles) (λ j. pastR (compress t j)) (compressItems t)
+      same-furthest (pastOf compress-cycles) (λ j. pastR (compressTakes t j)) (compressItems t)
       (λ j h.
       let k : 0 < t .r = compress-some (omega arith) in
       let l : j % t .r < t .r = mod-lt j k in
@@ -129,32 +129,32 @@ module _ (t : Runs) where
     in-period : j % (t .r + t .s) < t .r + t .s
     in-period = let k : (0 < t .r) × (0 < t .s) = merge-some (omega arith) in mod-lt j (omega arith)
 
-    whole : j ≡ j / (t .r + t .s) * (t .r + t .s) + place t j
+    whole : j ≡ j / (t .r + t .s) * (t .r + t .s) + inPeriod t j
     whole = sym (div-add-mod' j (t .r + t .s))
 
-    merge-r-item : pastOf merge-r-cycles j ≡ pastR (merge t j)
-    merge-r-item = sym (split-r (t .r + t .s) (t .r) 0 (j / (t .r + t .s)) (place t j) (t .r) _ _ (omega arith))
+    merge-r-item : pastOf merge-r-cycles j ≡ pastR (mergeTakes t j)
+    merge-r-item = sym (split-r (t .r + t .s) (t .r) 0 (j / (t .r + t .s)) (inPeriod t j) (t .r) _ _ (omega arith))
 
-    merge-s-item : pastOf merge-s-cycles j ≡ pastS (merge t j)
-    merge-s-item = sym (split-s (t .r + t .s) (t .s) 0 (j / (t .r + t .s)) (place t j) (t .r) _ _ (t .s) in-period (omega arith))
+    merge-s-item : pastOf merge-s-cycles j ≡ pastS (mergeTakes t j)
+    merge-s-item = sym (split-s (t .r + t .s) (t .s) 0 (j / (t .r + t .s)) (inPeriod t j) (t .r) _ _ (t .s) in-period (omega arith))
 
-    mask-r-item : pastOf mask-r-cycles j ≡ pastR (mask t j)
-    mask-r-item = let w : j ≡ j / (t .r + t .s) * (t .r + t .s) + place t j = whole in sym (split-r (t .r + t .s) (t .r + t .s) 0 (j / (t .r + t .s)) (place t j) (t .r) j j (omega arith))
+    mask-r-item : pastOf mask-r-cycles j ≡ pastR (maskTakes t j)
+    mask-r-item = let w : j ≡ j / (t .r + t .s) * (t .r + t .s) + inPeriod t j = whole in sym (split-r (t .r + t .s) (t .r + t .s) 0 (j / (t .r + t .s)) (inPeriod t j) (t .r) j j (omega arith))
 
-    mask-s-item : pastOf mask-s-cycles j ≡ pastS (mask t j)
-    mask-s-item = let w : j ≡ j / (t .r + t .s) * (t .r + t .s) + place t j = whole in sym (split-s (t .r + t .s) (t .r + t .s) (t .r) (j / (t .r + t .s)) (place t j) (t .r) j j (t .s) in-period (omega arith))
+    mask-s-item : pastOf mask-s-cycles j ≡ pastS (maskTakes t j)
+    mask-s-item = let w : j ≡ j / (t .r + t .s) * (t .r + t .s) + inPeriod t j = whole in sym (split-s (t .r + t .s) (t .r + t .s) (t .r) (j / (t .r + t .s)) (inPeriod t j) (t .r) j j (t .s) in-period (omega arith))
 
   merge-r-same : furthest (pastOf merge-r-cycles) (mergeItems t) ≡ mergeR t
-  merge-r-same = same-furthest (pastOf merge-r-cycles) (λ j. pastR (merge t j)) (mergeItems t) merge-r-item
+  merge-r-same = same-furthest (pastOf merge-r-cycles) (λ j. pastR (mergeTakes t j)) (mergeItems t) merge-r-item
 
   merge-s-same : furthest (pastOf merge-s-cycles) (mergeItems t) ≡ mergeS t
-  merge-s-same = same-furthest (pastOf merge-s-cycles) (λ j. pastS (merge t j)) (mergeItems t) merge-s-item
+  merge-s-same = same-furthest (pastOf merge-s-cycles) (λ j. pastS (mergeTakes t j)) (mergeItems t) merge-s-item
 
   mask-r-same : furthest (pastOf mask-r-cycles) (mergeItems t) ≡ maskR t
-  mask-r-same = same-furthest (pastOf mask-r-cycles) (λ j. pastR (mask t j)) (mergeItems t) mask-r-item
+  mask-r-same = same-furthest (pastOf mask-r-cycles) (λ j. pastR (maskTakes t j)) (mergeItems t) mask-r-item
 
   mask-s-same : furthest (pastOf mask-s-cycles) (mergeItems t) ≡ maskS t
-  mask-s-same = same-furthest (pastOf mask-s-cycles) (λ j. pastS (mask t j)) (mergeItems t) mask-s-item
+  mask-s-same = same-furthest (pastOf mask-s-cycles) (λ j. pastS (maskTakes t j)) (mergeItems t) mask-s-item
 
   module _ (fits : Lengths t) where
     pub compress-shape : Shape compress-cycles (compressItems t) (compressR t)
@@ -192,7 +192,7 @@ module _ (t : Runs) where
 -- ---- what an extent means, for any rule that says which bit each item takes
 
 -- R: every bit taken lies below its extent, and the extent's last bit is taken
-module _ (take : ℕ → Taken) (n : ℕ) where
+module _ (take : ℕ → SourceBit) (n : ℕ) where
   pub r-covered : (j i : ℕ) → j < n → take j ≡ ofR i → i < furthest (λ j. pastR (take j)) n
   r-covered j i h e =
       let c : pastR (take j) ≤ furthest (λ j. pastR (take j)) n = covers (λ j. pastR (take j)) n j h in
@@ -210,7 +210,7 @@ module _ (take : ℕ → Taken) (n : ℕ) where
       let k : Hit (λ j. pastR (take j)) n (furthest (λ j. pastR (take j)) n) = reached (λ j. pastR (take j)) n (omega arith) in
       record { item = k .item; below = k .below; takes = go (take (k .item)) (k .gives ∙ e) }
     where
-      go : (x : Taken) → pastR x ≡ i + 1 → x ≡ ofR i
+      go : (x : SourceBit) → pastR x ≡ i + 1 → x ≡ ofR i
       go (ofR m) p = ap ofR (omega arith)
       go (ofS m) p = absurd (omega arith)
 
@@ -219,20 +219,20 @@ module _ (take : ℕ → Taken) (n : ℕ) where
       let k : Hit (λ j. pastS (take j)) n (furthest (λ j. pastS (take j)) n) = reached (λ j. pastS (take j)) n (omega arith) in
       record { item = k .item; below = k .below; takes = go (take (k .item)) (k .gives ∙ e) }
     where
-      go : (x : Taken) → pastS x ≡ i + 1 → x ≡ ofS i
+      go : (x : SourceBit) → pastS x ≡ i + 1 → x ≡ ofS i
       go (ofR m) p = absurd (omega arith)
       go (ofS m) p = ap ofS (omega arith)
 
 -- nothing is read from S where n is at most r
 module _ (t : Runs) (h : t .n ≤ t .r) where
-  unread : (x y : ℕ → ℕ) (j : ℕ) → j < mergeItems t → pastS (cond (ltb (place t j) (t .r)) (ofR (x j)) (ofS (y j))) ≤ 0
+  unread : (x y : ℕ → ℕ) (j : ℕ) → j < mergeItems t → pastS (cond (ltb (inPeriod t j) (t .r)) (ofR (x j)) (ofS (y j))) ≤ 0
   unread x y j l =
       let few : mergeItems t ≤ t .n = merge-few t in
-      let s : place t j ≡ j = mod-eq-of-lt (omega arith) in
-      rw (lt-ltb (place t j) (t .r) (omega arith)) (omega arith)
+      let s : inPeriod t j ≡ j = mod-eq-of-lt (omega arith) in
+      rw (lt-ltb (inPeriod t j) (t .r) (omega arith)) (omega arith)
 
   pub merge-s-unread : mergeS t ≡ 0
-  merge-s-unread = let l : mergeS t ≤ 0 = at-most (λ j. pastS (merge t j)) (mergeItems t) 0 (unread _ _) in omega arith
+  merge-s-unread = let l : mergeS t ≤ 0 = at-most (λ j. pastS (mergeTakes t j)) (mergeItems t) 0 (unread _ _) in omega arith
 
   pub mask-s-unread : maskS t ≡ 0
-  mask-s-unread = let l : maskS t ≤ 0 = at-most (λ j. pastS (mask t j)) (mergeItems t) 0 (unread _ _) in omega arith
+  mask-s-unread = let l : maskS t ≤ 0 = at-most (λ j. pastS (maskTakes t j)) (mergeItems t) 0 (unread _ _) in omega arith

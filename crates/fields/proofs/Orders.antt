@@ -14,7 +14,7 @@ use lib.Bits.{bitOr, or-shifted, or-shifted-r}
 use lib.Pow as pow
 use Rattle.fields.specs.Field.{field, store}
 use Rattle.fields.specs.Bytes.{num, size, Bytes}
-use Rattle.fields.specs.Ends.{digit, little, swapped}
+use Rattle.fields.specs.Private.Ends.{digit, little, swapped}
 use Rattle.fields.specs.Memory.{Kept}
 use Rattle.fields.proofs.Places.{store-join, field-none}
 use Rattle.fields.proofs.Lists.{one-more, byte-store}

@@ -5,7 +5,7 @@ use Prim.Native.Nat.{ℕ, _+_, _-_, _*_, _^_, _≤_, _<_}
 use native.Mathlib.Nat.{mod-one}
 use native.Mathlib.Omega.{arith}
 use Rattle.fields.specs.Field.{field, store, Apart}
-use Rattle.fields.proofs.Slots.{get-lt, get-put, get-left, get-right, put-unique, put-lt, put-comm, put-put, put-get, put-join, get-join, put-inside, get-get}
+use Rattle.fields.proofs.Slots.{get-lt, get-put, get-left, get-right, put-unique, put-lt, put-comm, put-put, put-join, get-join, put-inside, get-get}
 
 module _ (L : ℕ) where
   pub field-lt : (a n x : ℕ) → field L a n x < 2 ^ n
@@ -32,10 +32,6 @@ module _ (L : ℕ) where
   -- the later of two writes to one field stands
   pub store-store : (a n v w x : ℕ) → v < 2 ^ n → w < 2 ^ n → store L a n v (store L a n w x) ≡ store L a n v x
   store-store a n v w x hv hw = put-put (L - (a + n)) n v w x hv hw
-
-  -- a field that is written with what it holds
-  pub store-field : (a n x : ℕ) → store L a n (field L a n x) x ≡ x
-  store-field a n x = put-get (L - (a + n)) n x
 
   -- two fields side by side are one field
   pub field-join : (a m n x : ℕ) → a + (m + n) ≤ L → field L a (m + n) x ≡ field L a m x * 2 ^ n + field L (a + m) n x

@@ -7,14 +7,14 @@ use Rattle.fields.specs.declared.extents.Unit.the-variants.{Bit, Byte, H
 use Rattle.fields.specs.declared.extents.Field.{Field}
 use Rattle.fields.specs.declared.units.BitAddress.{BitAddress}
 use Rattle.fields.specs.Memory.{origin}
-use Rattle.fields.specs.Units.{shiftedBy}
+use Rattle.fields.specs.Units.{inBits}
 
 -- "it turns into bits by shifting left 0, 3, 5 or 6 (000, 3.1.5)"
-abbrev pub shiftOf : U.Unit → ℕ
-shiftOf Bit = 0
-shiftOf Byte = 3
-shiftOf HalfWord = 5
-shiftOf Word = 6
+abbrev pub unitShift : U.Unit → ℕ
+unitShift Bit = 0
+unitShift Byte = 3
+unitShift HalfWord = 5
+unitShift Word = 6
 
 -- "A word has 64 bits, a half word 32"
 abbrev pub widthOf : U.Unit → ℕ
@@ -25,7 +25,7 @@ widthOf Word = 64
 
 -- a field of so many items, from an address on; "it turns into bits"
 abbrev pub fieldOf : U.Unit → BitAddress → ℕ → Field
-fieldOf u base items = record { base = base; bits = record { 0 = shiftedBy (shiftOf u) items }; unit = u }
+fieldOf u base items = record { base = base; bits = record { 0 = inBits (unitShift u) items }; unit = u }
 
 -- a field that is not there
 abbrev pub absentField : Field

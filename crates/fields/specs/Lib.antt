@@ -6,6 +6,4 @@ pub mod Bytes
 pub mod Memory
 pub mod Extents
 pub mod Gathers
-pub mod InTurn
-pub mod Ends
-pub mod Cycles
+pub mod Private

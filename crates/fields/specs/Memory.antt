@@ -17,12 +17,12 @@ abbrev pub origin : ℕ
 origin = 0x4000
 
 -- the n bits at address a are wholly in the lent bytes m; "a field's end never wraps", so a + n is a plain sum
-pub record Inside (m : List ℕ) (a n : ℕ) : Type 0 where
+pub record InMemory (m : List ℕ) (a n : ℕ) : Type 0 where
   pub from : origin ≤ a
   pub upto : a + n ≤ origin + size m
 
 -- .. and begin with a byte, as every address does that 01's number 8 lets pass for a byte, a half word or a word
-pub record Aligned (m : List ℕ) (a n : ℕ) : Type 0 where
+pub record AtByte (m : List ℕ) (a n : ℕ) : Type 0 where
   pub from : origin ≤ a
   pub upto : a + n ≤ origin + size m
   pub whole : a % 8 ≡ 0

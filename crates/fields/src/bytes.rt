@@ -7,7 +7,7 @@ ghost use Prim.Native.Nat.{_+_, _*_, _%_, _^_, _≤_, _<_};
 ghost use lib.ListN.{length};
 ghost use Rattle.fields.specs.Field.{field, store};
 ghost use Rattle.fields.specs.Bytes.{num, size};
-ghost use Rattle.fields.specs.Ends.{little, swapped};
+ghost use Rattle.fields.specs.Private.Ends.{little, swapped};
 ghost use Rattle.fields.specs.Memory.{Kept};
 
 // The n bytes from byte k on, the first rightmost.

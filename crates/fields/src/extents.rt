@@ -2,7 +2,7 @@
 ghost use mathlib.Core.Path.{_≡_};
 ghost use Prim.Native.Nat.{_<_};
 ghost use Rattle.fields.specs.declared.extents.Unit.the-variants.{Bit, Byte, HalfWord, Word};
-ghost use Rattle.fields.specs.Extents.{widthOf, fieldOf, absentField, empty, aligned, inside, shares, inPlace};
+ghost use Rattle.fields.specs.Extents.{widthOf, fieldOf, absentField, aligned, inside, shares, inPlace};
 use crate::units::BitAddress;
 use crate::units::BitCount;
 use crate::units::ByteCount;
@@ -93,12 +93,6 @@ impl Field {
             bits: BitCount(0),
             unit: Unit::Bit,
         }
-    }
-
-    pub fn empty(self) -> bool
-        ensures { λ r. ⌜ r ≡ empty self ⌝ }
-    {
-        self.bits.0 == 0
     }
 
     // It is empty, or its start is a multiple of its unit.

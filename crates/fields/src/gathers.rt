@@ -2,7 +2,7 @@
 ghost use mathlib.Core.Path.{_≡_};
 ghost use Prim.Native.Nat.{min};
 ghost use Rattle.fields.specs.Gathers.{furthest, compressItems, mergeItems, compressR, mergeR, mergeS, maskR, maskS};
-ghost use Rattle.fields.specs.Cycles.{pastOf, Allowed};
+ghost use Rattle.fields.specs.Private.Cycles.{pastOf, Allowed};
 use crate::units::BitCount;
 
 // The lengths in R, S and T.

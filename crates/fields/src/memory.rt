@@ -6,7 +6,7 @@ use crate::units::ByteCount;
 use crate::units::ORIGIN;
 ghost use mathlib.Core.Path.{_≡_};
 ghost use Prim.Native.Nat.{_-_, _^_, _≤_, _<_};
-ghost use Rattle.fields.specs.Memory.{rightLength, origin, Inside, Aligned, fieldAt, Stored};
+ghost use Rattle.fields.specs.Memory.{rightLength, origin, InMemory, AtByte, fieldAt, Stored};
 
 // May memory have this length?
 pub fn lent_length_is_right(length: ByteCount) -> bool
@@ -24,56 +24,56 @@ fn offset(a: BitAddress) -> usize
 }
 
 pub fn read_bit(m: &[u8], a: BitAddress) -> u64
-    requires { ⌜ Inside (now m) (a .0) 1 ⌝ }
+    requires { ⌜ InMemory (now m) (a .0) 1 ⌝ }
     ensures { λ r. ⌜ r ≡ fieldAt (now (m .entry)) (a .0) 1 ⌝ }
 {
     bytes::bit(m, offset(a))
 }
 
 pub fn write_bit(m: &mut [u8], a: BitAddress, v: u64)
-    requires { ⌜ Inside (now m) (a .0) 1 × (v < 2) ⌝ }
+    requires { ⌜ InMemory (now m) (a .0) 1 × (v < 2) ⌝ }
     ensures { λ r. ⌜ Stored (now (m .entry)) (a .0) 1 v (now (m .exit)) ⌝ }
 {
     bytes::put_bit(m, offset(a), v)
 }
 
 pub fn read_byte(m: &[u8], a: BitAddress) -> u64
-    requires { ⌜ Aligned (now m) (a .0) 8 ⌝ }
+    requires { ⌜ AtByte (now m) (a .0) 8 ⌝ }
     ensures { λ r. ⌜ r ≡ fieldAt (now (m .entry)) (a .0) 8 ⌝ }
 {
     bytes::byte(m, offset(a) / 8)
 }
 
 pub fn write_byte(m: &mut [u8], a: BitAddress, v: u64)
-    requires { ⌜ Aligned (now m) (a .0) 8 × (v < 2 ^ 8) ⌝ }
+    requires { ⌜ AtByte (now m) (a .0) 8 × (v < 2 ^ 8) ⌝ }
     ensures { λ r. ⌜ Stored (now (m .entry)) (a .0) 8 v (now (m .exit)) ⌝ }
 {
     bytes::put_byte(m, offset(a) / 8, v)
 }
 
 pub fn read_half_word(m: &[u8], a: BitAddress) -> u64
-    requires { ⌜ Aligned (now m) (a .0) 32 ⌝ }
+    requires { ⌜ AtByte (now m) (a .0) 32 ⌝ }
     ensures { λ r. ⌜ r ≡ fieldAt (now (m .entry)) (a .0) 32 ⌝ }
 {
     bytes::half_word(m, offset(a) / 8)
 }
 
 pub fn write_half_word(m: &mut [u8], a: BitAddress, v: u64)
-    requires { ⌜ Aligned (now m) (a .0) 32 × (v < 2 ^ 32) ⌝ }
+    requires { ⌜ AtByte (now m) (a .0) 32 × (v < 2 ^ 32) ⌝ }
     ensures { λ r. ⌜ Stored (now (m .entry)) (a .0) 32 v (now (m .exit)) ⌝ }
 {
     bytes::put_half_word(m, offset(a) / 8, v)
 }
 
 pub fn read_word(m: &[u8], a: BitAddress) -> u64
-    requires { ⌜ Aligned (now m) (a .0) 64 ⌝ }
+    requires { ⌜ AtByte (now m) (a .0) 64 ⌝ }
     ensures { λ r. ⌜ r ≡ fieldAt (now (m .entry)) (a .0) 64 ⌝ }
 {
     bytes::word(m, offset(a) / 8)
 }
 
 pub fn write_word(m: &mut [u8], a: BitAddress, v: u64)
-    requires { ⌜ Aligned (now m) (a .0) 64 ⌝ }
+    requires { ⌜ AtByte (now m) (a .0) 64 ⌝ }
     ensures { λ r. ⌜ Stored (now (m .entry)) (a .0) 64 v (now (m .exit)) ⌝ }
 {
     bytes::put_word(m, offset(a) / 8, v)

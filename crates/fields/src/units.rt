@@ -1,7 +1,7 @@
 // A bit address, and counts of bits, bytes, half words and words. None stands in for another: each count turns into bits by its own shift, and an
 // address moves by bits alone.
 ghost use mathlib.Core.Path.{_≡_};
-ghost use Rattle.fields.specs.Units.{shiftedBy, formed};
+ghost use Rattle.fields.specs.Units.{inBits, formed};
 
 // Addresses and counts have 48 bits.
 const WRAP: u64 = 0x1_0000_0000_0000;
@@ -30,7 +30,7 @@ impl BitAddress {
 
 impl BitCount {
     pub fn shifted(self) -> BitCount
-        ensures { λ r. ⌜ r .0 ≡ shiftedBy 0 (self .0) ⌝ }
+        ensures { λ r. ⌜ r .0 ≡ inBits 0 (self .0) ⌝ }
     {
         BitCount(self.0 % WRAP)
     }
@@ -38,7 +38,7 @@ impl BitCount {
 
 impl ByteCount {
     pub fn shifted(self) -> BitCount
-        ensures { λ r. ⌜ r .0 ≡ shiftedBy 3 (self .0) ⌝ }
+        ensures { λ r. ⌜ r .0 ≡ inBits 3 (self .0) ⌝ }
     {
         BitCount((self.0 << 3) % WRAP)
     }
@@ -46,7 +46,7 @@ impl ByteCount {
 
 impl HalfWordCount {
     pub fn shifted(self) -> BitCount
-        ensures { λ r. ⌜ r .0 ≡ shiftedBy 5 (self .0) ⌝ }
+        ensures { λ r. ⌜ r .0 ≡ inBits 5 (self .0) ⌝ }
     {
         BitCount((self.0 << 5) % WRAP)
     }
@@ -54,7 +54,7 @@ impl HalfWordCount {
 
 impl WordCount {
     pub fn shifted(self) -> BitCount
-        ensures { λ r. ⌜ r .0 ≡ shiftedBy 6 (self .0) ⌝ }
+        ensures { λ r. ⌜ r .0 ≡ inBits 6 (self .0) ⌝ }
     {
         BitCount((self.0 << 6) % WRAP)
     }

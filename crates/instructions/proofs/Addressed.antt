@@ -9,7 +9,7 @@ use Rattle.fields.specs.Bytes.{num}
 use Rattle.fields.specs.declared.units.BitAddress.{BitAddress}
 use Rattle.fields.specs.Field.{field, store}
 use Rattle.fields.specs.Memory.{fieldAt}
-use Rattle.fields.specs.Units.{shiftedBy, formed}
+use Rattle.fields.specs.Units.{inBits, formed}
 use Rattle.instructions.specs.declared.operands.Operands.{Operands}
 use Rattle.instructions.specs.declared.effects.Outcome.{Outcome}
 use Rattle.instructions.specs.declared.effects.Effect.{Effect}
@@ -23,7 +23,7 @@ use Rattle.instructions.specs.Table.{meaningOf}
 use Rattle.instructions.specs.Scalars.{toRegister, loadByteOf, byteAt, loadWordOf, wordAt}
 
 -- the address n items after a, of a unit that is shifted left k
-pub index-is : (a n k : ℕ) {r : BitAddress} {b : ℕ} → r .0 ≡ formed a b → b ≡ shiftedBy k n → r ≡ record { 0 = formed a (shiftedBy k n) }
+pub index-is : (a n k : ℕ) {r : BitAddress} {b : ℕ} → r .0 ≡ formed a b → b ≡ inBits k n → r ≡ record { 0 = formed a (inBits k n) }
 index-is a n k e h = ap (λ (x : ℕ). record { 0 = x }) (e ∙ ap (formed a) h)
 
 -- the right byte of a word

@@ -8,10 +8,9 @@ use native.Mathlib.Nat.{mod-lt, suc-mul, mul-le-mul-right}
 use native.Mathlib.Omega.{arith}
 use lib.Bits.{bitOr}
 use lib.Pow.{pow-pos}
-use Rattle.fields.specs.Field.{field, store, Apart}
-use Rattle.fields.specs.InTurn.{inTurn, items, Same, Looks}
+use Rattle.fields.specs.Field.{field, store, Apart, sideBySide}
 use Rattle.fields.proofs.Places.{field-lt}
-use Rattle.fields.proofs.Turns.{look-apart, look-same, at-once, untouched, done, to-come}
+use Rattle.fields.proofs.Turns.{inTurn, Same, Looks, look-apart, look-same, at-once, untouched, done, to-come}
 use Rattle.instructions.specs.Items.{Place, bits, fixed, Shape, valueAt, storedAt, madeAt, itemAt, flagsAt, Worked, worked, turn, turns, flagsTogether, whole}
 
 -- n bits of item i come from a place that no earlier item of the result spoils: apart from the whole result, or item i itself

@@ -12,7 +12,7 @@ use Rattle.fields.specs.declared.extents.Unit.the-variants.{HalfWord}
 use Rattle.fields.specs.Extents.{aligned, inside}
 use Rattle.fields.specs.Field.{field}
 use Rattle.fields.specs.Bytes.{num, size}
-use Rattle.fields.specs.Memory.{origin, Aligned, fieldAt}
+use Rattle.fields.specs.Memory.{origin, AtByte, fieldAt}
 use Rattle.fields.proofs.Places.{field-lt, field-join}
 use Rattle.fields.proofs.FieldMeaning.{Multiple, aligned-multiple, inside-every, inside-ends, all-bits}
 use Rattle.instructions.specs.declared.table.Row.{Row}
@@ -75,7 +75,7 @@ module _ (p h n : ℕ) (some : 0 < h) (few : h ≤ 2) where
       go true e = let t = there-ends e in let l = fails refl (t .0) (t .1 .1) in absurd (omega (arith, l, t .0, t .1 .0, t .1 .1))
 
 -- what the reads ask
-pub there-aligned : (m : List ℕ) (p h : ℕ) → 0 < h → h ≤ 2 → there p h (length m) ≡ true → Aligned m p (32 * h)
+pub there-aligned : (m : List ℕ) (p h : ℕ) → 0 < h → h ≤ 2 → there p h (length m) ≡ true → AtByte m p (32 * h)
 there-aligned m p h some few e = let t = there-ends p h (length m) some few e in omega arith
 
 -- a half word in the left half of a word

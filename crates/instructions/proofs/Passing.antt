@@ -8,7 +8,7 @@ use native.Mathlib.Omega.{arith}
 use borrow.Author.Tests.{ltb-true}
 use lib.Dec.{ltb}
 use Rattle.fields.specs.Field.{Apart}
-use Rattle.fields.specs.Gathers.{Taken, ofR, ofS, pastR, pastS, furthest}
+use Rattle.fields.specs.Gathers.{SourceBit, ofR, ofS, pastR, pastS, furthest}
 use Rattle.fields.proofs.GatherMeaning.{r-covered, s-covered}
 use Rattle.instructions.specs.declared.items.Source.{Source}
 use Rattle.instructions.specs.declared.items.Source.the-variants.{Field, Value}
@@ -67,11 +67,11 @@ second-safe : (L c n e d : ℕ) (b : SecondBits) → SecondPasses L c n e b → 
 second-safe L c n e d (From b) h l = part-safe L c n b e d 1 (h .1) (omega arith) (omega arith)
 second-safe L c n e d Zeros h l = tt
 
-pub bit-safe : (L c n a : ℕ) (b : SecondBits) (take : ℕ → Taken) (N i : ℕ) → i < N → Away L c n a (furthest (λ j. pastR (take j)) N) → SecondPasses L c n (furthest (λ j. pastS (take j)) N) b
+pub bit-safe : (L c n a : ℕ) (b : SecondBits) (take : ℕ → SourceBit) (N i : ℕ) → i < N → Away L c n a (furthest (λ j. pastR (take j)) N) → SecondPasses L c n (furthest (λ j. pastS (take j)) N) b
     → Safe L c n 1 (bitOf a b (take i))
 bit-safe L c n a b take N i h ha hb = go (take i) refl
   where
-    go : (x : Taken) → take i ≡ x → Safe L c n 1 (bitOf a b x)
+    go : (x : SourceBit) → take i ≡ x → Safe L c n 1 (bitOf a b x)
     go (ofR d) e = part-safe L c n a (furthest (λ j. pastR (take j)) N) d 1 ha (let l = r-covered take N i d h e in omega arith) (omega arith)
     go (ofS d) e = second-safe L c n (furthest (λ j. pastS (take j)) N) d b hb (s-covered take N i d h e)
 

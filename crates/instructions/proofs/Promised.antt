@@ -5,8 +5,8 @@ use Prim.Native.Nat.{ℕ, zero, suc, _+_, _*_, _≤_, _<_}
 use native.Mathlib.Nat.{zero-mul}
 use native.Mathlib.Omega.{arith}
 use Rattle.fields.specs.Field.{field}
-use Rattle.fields.specs.InTurn.{Same}
 use Rattle.fields.proofs.Places.{store-none}
+use Rattle.fields.proofs.Turns.{Same}
 use Rattle.instructions.specs.Items.{Shape, resultAt, itemAt, Worked, worked, turns, flagsTogether, whole}
 use Rattle.instructions.specs.Plan.{Plan, shape, itemsOf}
 use Rattle.instructions.specs.Accepted.{Accepted}

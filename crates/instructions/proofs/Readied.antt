@@ -20,10 +20,10 @@ use Rattle.fields.specs.declared.extents.Field as F
 use Rattle.fields.specs.declared.gathers.Runs.{Runs}
 use Rattle.fields.specs.Bytes.{size}
 use Rattle.fields.specs.Field.{field, Apart}
-use Rattle.fields.specs.Memory.{rightLength, Aligned}
+use Rattle.fields.specs.Memory.{rightLength, AtByte}
 use Rattle.fields.specs.Extents as E
 use Rattle.fields.specs.Extents.{fieldOf, absentField, aligned, inside, shares}
-use Rattle.fields.specs.Gathers.{compress, compressItems, mergeItems, pastR, pastS, furthest}
+use Rattle.fields.specs.Gathers.{compressTakes, compressItems, mergeItems, pastR, pastS, furthest}
 use Rattle.fields.proofs.FieldMeaning.{all-bits, length-fits, inside-ends}
 use Rattle.fields.proofs.Furthest.{at-most}
 use Rattle.fields.proofs.GatherMeaning.{Lengths, extents-low, compress-few, merge-few}
@@ -180,8 +180,8 @@ lengths o =
     record { r-fits = omega arith; s-fits = omega arith; n-fits = omega arith }
 
 -- nothing of S is read by a compress
-compress-s : (t : Runs) (n : ℕ) → furthest (λ j. pastS (compress t j)) n ≡ 0
-compress-s t n = let l = at-most (λ j. pastS (compress t j)) n 0 (λ j h. omega arith) in omega arith
+compress-s : (t : Runs) (n : ℕ) → furthest (λ j. pastS (compressTakes t j)) n ≡ 0
+compress-s t n = let l = at-most (λ j. pastS (compressTakes t j)) n 0 (λ j h. omega arith) in omega arith
 
 -- 14, 15 and 16: the extents of the layout are the plan's
 compress-accepted : (o : Operands) (n : ℕ) → Passed (compressOf o) n → 0 < compressItems (runsOf o) → BitsPass (8 * n) (bitsIn Rule.Compress o)
@@ -189,7 +189,7 @@ compress-accepted o n p some =
     let t = runsOf o in
     let few : compressItems t ≤ 65535 = let a = length-few (o .a) in let b = compress-few t in omega arith in
     let low = extents-low t (lengths o) in
-    let small : furthest (λ j. pastR (compress t j)) (compressItems t) < 2 ^ 47 = let l = low .0 in omega arith in
+    let small : furthest (λ j. pastR (compressTakes t j)) (compressItems t) < 2 ^ 47 = let l = low .0 in omega arith in
     let l = base-low (o .g) in
     record {
       upto = bits-upto (o .a) (compressItems t) n some few (p .result-inside);
@@ -198,7 +198,7 @@ compress-accepted o n p some =
       second = unread (eqb (low48 (o .x)) 0);
     }
   where
-    unread : (b : Bool) → SecondPasses (8 * n) (placeOf (low48 (o .a))) (compressItems (runsOf o)) (furthest (λ j. pastS (compress (runsOf o) j)) (compressItems (runsOf o))) (cond b Zeros (From (placeOf (low48 (o .x)))))
+    unread : (b : Bool) → SecondPasses (8 * n) (placeOf (low48 (o .a))) (compressItems (runsOf o)) (furthest (λ j. pastS (compressTakes (runsOf o) j)) (compressItems (runsOf o))) (cond b Zeros (From (placeOf (low48 (o .x)))))
     unread true = tt
     unread false =
         let l = base-low (o .x) in
@@ -318,7 +318,7 @@ ready m p w o right is passes =
 -- ---- the address of a load or a store
 
 -- a byte or a word that passes 8 and 10 lies in memory and begins with a byte
-byte-there : (m : List ℕ) (a : BitAddress) → aligned (fieldOf Byte a 1) ≡ true → inside (fieldOf Byte a 1) (length m) ≡ true → Aligned m (a .0) 8
+byte-there : (m : List ℕ) (a : BitAddress) → aligned (fieldOf Byte a 1) ≡ true → inside (fieldOf Byte a 1) (length m) ≡ true → AtByte m (a .0) 8
 byte-there m a al i =
     let h = has Byte a 1 (lit≤ tt) in
     let p = placed (fieldOf Byte a 1) (length m) (some-bits Byte a 1 (lit< tt) (lit≤ tt)) al i in
@@ -327,7 +327,7 @@ byte-there m a al i =
     let w = p .whole in
     record { from = f; upto = omega arith; whole = omega arith }
 
-word-there : (m : List ℕ) (a : BitAddress) → aligned (fieldOf Word a 1) ≡ true → inside (fieldOf Word a 1) (length m) ≡ true → Aligned m (a .0) 64
+word-there : (m : List ℕ) (a : BitAddress) → aligned (fieldOf Word a 1) ≡ true → inside (fieldOf Word a 1) (length m) ≡ true → AtByte m (a .0) 64
 word-there m a al i =
     let h = has Word a 1 (lit≤ tt) in
     let p = placed (fieldOf Word a 1) (length m) (some-bits Word a 1 (lit< tt) (lit≤ tt)) al i in

@@ -14,7 +14,6 @@ use Rattle.fields.specs.declared.extents.Field.{Field}
 use Rattle.fields.specs.declared.units.BitAddress.{BitAddress}
 use Rattle.fields.specs.Field.{Apart}
 use Rattle.fields.specs.Extents.{widthOf, fieldOf, endOf, aligned, inside, shares, inPlace}
-use Rattle.fields.specs.InTurn.{Source, apart, in-place}
 use Rattle.fields.proofs.FieldMeaning.{Multiple, aligned-multiple, inside-ends, shares-apart, in-place-words, all-bits, length-fits}
 use Rattle.instructions.specs.declared.operands.Operands.{Operands}
 use Rattle.instructions.specs.declared.layout.Fields.{Fields}

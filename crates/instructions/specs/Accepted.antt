@@ -17,7 +17,7 @@ use Rattle.instructions.specs.declared.items.SecondBits.{SecondBits}
 use Rattle.instructions.specs.declared.items.SecondBits.the-variants.{From, Zeros}
 use Rattle.instructions.specs.declared.items.BitPlan.{BitPlan}
 use Rattle.instructions.specs.declared.items.MovePlan.{MovePlan}
-use Rattle.fields.specs.Memory.{Aligned}
+use Rattle.fields.specs.Memory.{AtByte}
 use Rattle.instructions.specs.declared.operands.Operands.{Operands}
 use Rattle.instructions.specs.Meanings.{toT, toHalfT, loadsByte, loadsWord, storesByte, storesWord, Meaning, unlisted, exits, acts, branches, works}
 use Rattle.instructions.specs.Operands.{meaningIn}
@@ -90,10 +90,10 @@ ReachedBy unlisted o m = Unit {0}
 ReachedBy exits o m = Unit {0}
 ReachedBy (acts (toT f)) o m = Unit {0}
 ReachedBy (acts (toHalfT f)) o m = Unit {0}
-ReachedBy (acts loadsByte) o m = Aligned m (byteAt o .0) 8
-ReachedBy (acts loadsWord) o m = Aligned m (wordAt o .0) 64
-ReachedBy (acts storesByte) o m = Aligned m (byteAt o .0) 8
-ReachedBy (acts storesWord) o m = Aligned m (wordAt o .0) 64
+ReachedBy (acts loadsByte) o m = AtByte m (byteAt o .0) 8
+ReachedBy (acts loadsWord) o m = AtByte m (wordAt o .0) 64
+ReachedBy (acts storesByte) o m = AtByte m (byteAt o .0) 8
+ReachedBy (acts storesWord) o m = AtByte m (wordAt o .0) 64
 ReachedBy (branches c) o m = Unit {0}
 ReachedBy (works k) o m = Unit {0}
 

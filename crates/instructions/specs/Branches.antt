@@ -3,7 +3,7 @@ use mathlib.Core.Bool.{Bool, false, cond}
 use Prim.Native.Nat.{ℕ}
 use Rattle.fields.specs.declared.units.BitAddress.{BitAddress}
 use Rattle.fields.specs.Field.{field}
-use Rattle.fields.specs.Units.{shiftedBy, formed}
+use Rattle.fields.specs.Units.{inBits, formed}
 use Rattle.numbers.specs.Words.{sumOf}
 use Rattle.instructions.specs.declared.operands.Operands.{Operands}
 use Rattle.instructions.specs.declared.effects.Outcome.{Outcome}
@@ -30,7 +30,7 @@ takenOf w o = comparesBy (meaningIn w) (gBit 4 w) (branchSum o) (o .z)
 
 -- 01, Compare and branch: "Target: low 48 of B plus Y half words".
 abbrev pub targetOf : Operands → BitAddress
-targetOf o = record { 0 = formed (o .b) (shiftedBy 5 (o .y)) }
+targetOf o = record { 0 = formed (o .b) (inBits 5 (o .y)) }
 
 -- 01, Compare and branch: the sum "goes to C .. taken or not".
 unfoldable pub branchOf : ℕ → Operands → Outcome

@@ -5,7 +5,7 @@ use Prim.Native.Nat.{ℕ, _-_, _*_, _/_, _%_}
 use lib.ListN.{length, getD, set}
 use Rattle.fields.specs.Field.{store}
 use Rattle.fields.specs.Bytes.{num, size}
-use Rattle.fields.specs.Memory.{origin, Aligned}
+use Rattle.fields.specs.Memory.{origin, AtByte}
 use Rattle.fields.specs.Units.{formed}
 use Rattle.instructions.specs.declared.effects.Effect.{Effect}
 use Rattle.instructions.specs.declared.effects.Effect.the-variants.{Nothing, Register, HalfRegister, Byte, Word}
@@ -42,8 +42,8 @@ abbrev pub Reaches : Effect → List ℕ → Type 0
 Reaches Nothing m = Unit {0}
 Reaches (Register t v) m = Unit {0}
 Reaches (HalfRegister t v) m = Unit {0}
-Reaches (Byte a v) m = Aligned m (a .0) 8
-Reaches (Word a v) m = Aligned m (a .0) 64
+Reaches (Byte a v) m = AtByte m (a .0) 8
+Reaches (Word a v) m = AtByte m (a .0) 64
 
 -- 01, How much a contract has to say: the lent bytes m and the registers rs become m' and rs'.
 pub record Applied (e : Effect) (m rs m' rs' : List ℕ) : Type 0 where

@@ -7,8 +7,7 @@ use Prim.Native.Nat.{ℕ, zero, suc, _+_, _*_, _%_, _^_}
 use lib.Dec.{eqb}
 use lib.Bits.{bitOr}
 use lib.ListN.{length}
-use Rattle.fields.specs.Field.{field, store}
-use Rattle.fields.specs.InTurn.{items}
+use Rattle.fields.specs.Field.{field, store, sideBySide}
 use Rattle.fields.specs.Bytes.{num, size}
 use Rattle.instructions.specs.declared.items.Made.{Made}
 
@@ -80,7 +79,7 @@ flagsTogether s L (suc k) x f = bitOr (flagsTogether s L k x f) (flagsAt s L k x
 -- result field holds the first k items side by side, each made of the memory as it stood at the start; all else is as it was.
 abbrev pub whole : Shape → ℕ → ℕ → Worked → Worked
 whole s L k w =
-    worked (store L (s .result) (k * s .width) (items (s .width) (itemAt s L) k (w .memory)) (w .memory)) (flagsTogether s L k (w .memory) (w .flags))
+    worked (store L (s .result) (k * s .width) (sideBySide (s .width) (itemAt s L) k (w .memory)) (w .memory)) (flagsTogether s L k (w .memory) (w .flags))
 
 -- 01, Steps: m' and f' are what the lent bytes m and the flags f come to by k items from item `from` on.
 pub record Turned (s : Shape) (from k : ℕ) (m : List ℕ) (f : ℕ) (m' : List ℕ) (f' : ℕ) : Type 0 where

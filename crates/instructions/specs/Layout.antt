@@ -9,8 +9,8 @@ use Rattle.fields.specs.declared.extents.Unit.the-variants.{Bit, Byte, HalfWord
 use Rattle.fields.specs.declared.extents.Field.{Field}
 use Rattle.fields.specs.declared.gathers.Runs.{Runs}
 use Rattle.fields.specs.Field.{field}
-use Rattle.fields.specs.Units.{shiftedBy, formed}
-use Rattle.fields.specs.Extents.{shiftOf, fieldOf, absentField}
+use Rattle.fields.specs.Units.{inBits, formed}
+use Rattle.fields.specs.Extents.{unitShift, fieldOf, absentField}
 use Rattle.fields.specs.Gathers.{compressItems, mergeItems, compressR, mergeR, mergeS, maskR, maskS}
 use Rattle.instructions.specs.declared.operands.Operands.{Operands}
 use Rattle.instructions.specs.declared.layout.Fields.{Fields}
@@ -30,7 +30,7 @@ baseIn d = record { 0 = low48 d }
 
 -- "at R plus S bytes", "plus X bytes", "plus S words": an index counts its unit; "formed addresses wrap at 2^48"
 abbrev pub indexed : U.Unit → ℕ → ℕ → BitAddress
-indexed u d index = record { 0 = formed d (shiftedBy (shiftOf u) index) }
+indexed u d index = record { 0 = formed d (inBits (unitShift u) index) }
 
 -- the fields of an instruction that goes nowhere
 abbrev pub fieldsAt : Field → Field → Field → Field → Bool → Fields

@@ -3,7 +3,7 @@ use mathlib.Core.Bool.{cond}
 use Prim.Native.Nat.{ℕ, _+_, _*_}
 use lib.Dec.{ltb}
 use Rattle.fields.specs.declared.gathers.Runs.{Runs}
-use Rattle.fields.specs.Gathers.{Taken, ofR, ofS, compress, merge, mask, compressItems, mergeItems}
+use Rattle.fields.specs.Gathers.{SourceBit, ofR, ofS, compressTakes, mergeTakes, maskTakes, compressItems, mergeItems}
 use Rattle.instructions.specs.declared.items.Source.{Source}
 use Rattle.instructions.specs.declared.items.Source.the-variants.{Field, Value}
 use Rattle.instructions.specs.declared.items.Control.{Control}
@@ -72,15 +72,15 @@ secondBit (From b) d = bits (b + d)
 secondBit Zeros d = fixed 0
 
 -- 01, Bit fields: the bit of R or of S that is taken.
-abbrev pub bitOf : ℕ → SecondBits → Taken → Place
+abbrev pub bitOf : ℕ → SecondBits → SourceBit → Place
 bitOf a b (ofR d) = bits (a + d)
 bitOf a b (ofS d) = secondBit b d
 
 -- 01, Bit fields: which one each of the three takes for bit j of T.
-abbrev pub takenBy : Rule → Runs → ℕ → Taken
-takenBy Compress t j = compress t j
-takenBy Merge t j = merge t j
-takenBy Mask t j = mask t j
+abbrev pub takenBy : Rule → Runs → ℕ → SourceBit
+takenBy Compress t j = compressTakes t j
+takenBy Merge t j = mergeTakes t j
+takenBy Mask t j = maskTakes t j
 
 -- 01, Move: byte i of the source; "When A is exhausted the literal byte B fills".
 abbrev pub byteOf : ℕ → ℕ → ℕ → ℕ → Place

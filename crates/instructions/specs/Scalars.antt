@@ -3,7 +3,7 @@ use Prim.Native.Nat.{ℕ}
 use Rattle.fields.specs.declared.units.BitAddress.{BitAddress}
 use Rattle.fields.specs.Field.{field, store}
 use Rattle.fields.specs.Memory.{fieldIn}
-use Rattle.fields.specs.Units.{shiftedBy, formed}
+use Rattle.fields.specs.Units.{inBits, formed}
 use Rattle.instructions.specs.declared.items.Made.{Made}
 use Rattle.instructions.specs.declared.operands.Operands.{Operands}
 use Rattle.instructions.specs.declared.effects.Outcome.{Outcome}
@@ -26,7 +26,7 @@ toHalfRegister t r = goesOn (HalfRegister t (r .item)) (r .flags)
 
 -- 01, table, 12, 13: "at R plus S bytes".
 abbrev pub byteAt : Operands → BitAddress
-byteAt o = record { 0 = formed (R o) (shiftedBy 3 (S o)) }
+byteAt o = record { 0 = formed (R o) (inBits 3 (S o)) }
 
 -- 01, table, 12: "load (rest of T cleared) .. a byte, T bits 56-63".
 abbrev pub loadByteOf : ℕ → Operands → ℕ → ℕ → Outcome
@@ -38,7 +38,7 @@ storeByteOf o = goesOn (Byte (byteAt o) (field 64 56 8 (T o))) 0
 
 -- 01, table, 7E, 7F: "at R plus S words".
 abbrev pub wordAt : Operands → BitAddress
-wordAt o = record { 0 = formed (R o) (shiftedBy 6 (S o)) }
+wordAt o = record { 0 = formed (R o) (inBits 6 (S o)) }
 
 -- 01, table, 7E: "load .. word T".
 abbrev pub loadWordOf : ℕ → Operands → ℕ → ℕ → Outcome

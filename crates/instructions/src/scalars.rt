@@ -2,7 +2,7 @@
 ghost use mathlib.Core.Path.{_≡_};
 ghost use lib.ListN.{length};
 ghost use Rattle.fields.specs.Bytes.{num};
-ghost use Rattle.fields.specs.Memory.{Aligned};
+ghost use Rattle.fields.specs.Memory.{AtByte};
 ghost use Rattle.instructions.specs.Meanings.{plain, ofWord, ofHalf};
 ghost use Rattle.instructions.specs.Scalars.{byteAt, wordAt, toRegister, toHalfRegister, loadByteOf, storeByteOf, loadWordOf, storeWordOf, scalarOf};
 ghost use Rattle.instructions.specs.Accepted.{Reached};
@@ -72,7 +72,7 @@ fn half_to(number: u8, result: HalfWordResult) -> Outcome
 
 // Code 12.
 fn load_byte(number: u8, o: Operands, m: &[u8]) -> Outcome
-    requires { ⌜ Aligned (now m) (byteAt o .0) 8 ⌝ }
+    requires { ⌜ AtByte (now m) (byteAt o .0) 8 ⌝ }
     ensures { λ r. ⌜ r ≡ loadByteOf number o (length (now (m .entry))) (num (now (m .entry))) ⌝ }
 {
     let at = byte_address(o);
@@ -90,7 +90,7 @@ fn store_byte(o: Operands) -> Outcome
 
 // Code 7E.
 fn load_word(number: u8, o: Operands, m: &[u8]) -> Outcome
-    requires { ⌜ Aligned (now m) (wordAt o .0) 64 ⌝ }
+    requires { ⌜ AtByte (now m) (wordAt o .0) 64 ⌝ }
     ensures { λ r. ⌜ r ≡ loadWordOf number o (length (now (m .entry))) (num (now (m .entry))) ⌝ }
 {
     let at = word_address(o);

@@ -4,7 +4,7 @@ use Prim.Native.Nat.{ℕ, _+_, _-_, _*_, _%_, _^_, _≤_}
 use native.Mathlib.Omega.{arith}
 use lib.Bits.{bitOr}
 use lib.ListN.{getD}
-use Rattle.fields.specs.Ends.{little}
+use Rattle.fields.specs.Private.Ends.{little}
 use Rattle.fields.proofs.Orders.{little-none, little-placed}
 use Rattle.fields.proofs.bytes.little_at.Statement.{statement}
 use Rattle.fields.proofs.bytes.little_at.Tie as tie

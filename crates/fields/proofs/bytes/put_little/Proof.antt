@@ -8,7 +8,7 @@ use lib.ListN.{length, set, length-set}
 use lib.Pow.{pow-pos}
 use Rattle.fields.specs.Field.{store}
 use Rattle.fields.specs.Bytes.{num, size, Bytes}
-use Rattle.fields.specs.Ends.{swapped, digit}
+use Rattle.fields.specs.Private.Ends.{swapped, digit}
 use Rattle.fields.proofs.Places.{store-none}
 use Rattle.fields.proofs.Lists.{bytes-set}
 use Rattle.fields.proofs.Orders.{swapped-none, one-more-turned}

@@ -4,7 +4,7 @@ use Prim.Native.Nat.{ℕ, _-_, _*_, _/_, _%_, _^_, _≤_}
 use native.Mathlib.Nat.{zero-mul, mul-one, sub-self}
 use native.Mathlib.Omega.{arith}
 use lib.Bits.{bitOr}
-use Rattle.fields.specs.Ends.{swapped}
+use Rattle.fields.specs.Private.Ends.{swapped}
 use Rattle.fields.proofs.Orders.{swapped-none, swapped-placed}
 use Rattle.fields.proofs.bytes.turned.Statement.{statement}
 use Rattle.fields.proofs.bytes.turned.Tie as tie
