@@ -40,3 +40,5 @@ pub mod Counting
 pub mod Stepped
 pub mod Unions
 pub mod Steps
+pub mod FlagsKept
+pub mod Register00

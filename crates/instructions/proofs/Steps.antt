@@ -87,21 +87,24 @@ works-flags word o bytes from count w h = turns-among (shape (planOf word o)) (p
 
 -- ---- the verdict
 
--- the numbers that a verdict has
-abbrev Known : ℕ → Type 0
-Known n = (n ≤ 1) ⊎ ((4 ≤ n) × (n ≤ 11))
+-- n is the number of one of the checks
+abbrev pub NumberIn : ℕ → List Check → Type 0
+NumberIn n [] = ⊥
+NumberIn n (k ∷ ks) = (n ≡ k .number) ⊎ NumberIn n ks
 
-abbrev AllKnown : List Check → Type 0
-AllKnown [] = Unit {0}
-AllKnown (k ∷ ks) = Known (k .number) × AllKnown ks
+-- what a list of checks says is 0, or the number of one of them
+first-known : (ks : List Check) (c : Case) → (first ks c ≡ 0) ⊎ NumberIn (first ks c) ks
+first-known [] c = inl refl
+first-known (k ∷ ks) c = go (k .refuses c) (first-known ks c)
+  where
+    go : (b : Bool) → (first ks c ≡ 0) ⊎ NumberIn (first ks c) ks → (cond b (k .number) (first ks c) ≡ 0) ⊎ NumberIn (cond b (k .number) (first ks c)) (k ∷ ks)
+    go true h = inr (inl refl)
+    go false (inl e) = inl e
+    go false (inr i) = inr (inr i)
 
-first-known : (ks : List Check) (c : Case) → AllKnown ks → Known (first ks c)
-first-known [] c h = inl (lit≤ tt)
-first-known (k ∷ ks) c h = either Known (k .refuses c) (h .0) (first-known ks c (h .1))
-
-pub verdict-known : (p word : ℕ) (o : Operands) (bytes : ℕ) → (verdictOf p word o bytes ≤ 1) ⊎ ((4 ≤ verdictOf p word o bytes) × (verdictOf p word o bytes ≤ 11))
+pub verdict-known : (p word : ℕ) (o : Operands) (bytes : ℕ) → (verdictOf p word o bytes ≡ 0) ⊎ NumberIn (verdictOf p word o bytes) checks
 unfolding verdictOf
-verdict-known p word o bytes = first-known checks (case p word o bytes) (inr (lit≤ tt, lit≤ tt), (inr (lit≤ tt, lit≤ tt), (inr (lit≤ tt, lit≤ tt), (inr (lit≤ tt, lit≤ tt), (inl (lit≤ tt), (inr (lit≤ tt, lit≤ tt), (inr (lit≤ tt, lit≤ tt), (inr (lit≤ tt, lit≤ tt), (inr (lit≤ tt, lit≤ tt), tt)))))))))
+verdict-known p word o bytes = first-known checks (case p word o bytes)
 
 -- a word is one half word or two
 pub length-whole : (word : ℕ) → lengthOf word % 32 ≡ 0

@@ -84,6 +84,22 @@ vectorRule l =
 abbrev pub secondRule : Line → Bool
 secondRule l = (not (ofTwo (l .means)) || eqb (field 64 40 8 (l .named)) 0xFF) && (not (ofOne (l .means)) || eqb (field 64 40 8 (zeroBits (rowOf l))) 0xFF)
 
+-- a result that goes to a register has its designator named: T, a half word T, C of a branch
+abbrev pub resultNamed : Meaning → ℕ → Bool
+resultNamed unlisted named = true
+resultNamed exits named = true
+resultNamed (acts (toT f)) named = eqb (field 64 24 8 named) 0xFF
+resultNamed (acts (toHalfT f)) named = eqb (field 64 24 8 named) 0xFE
+resultNamed (acts loadsByte) named = eqb (field 64 24 8 named) 0xFF
+resultNamed (acts loadsWord) named = eqb (field 64 24 8 named) 0xFF
+resultNamed (acts storesByte) named = true
+resultNamed (acts storesWord) named = true
+resultNamed (branches c) named = eqb (field 64 56 8 named) 0xFF
+resultNamed (works k) named = true
+
+abbrev pub resultRule : Line → Bool
+resultRule l = resultNamed (l .means) (l .named)
+
 -- 09 is the exit
 abbrev pub ends : Kind → Bool
 ends Kind.Exit = true
@@ -105,7 +121,7 @@ abbrev pub exitRule : Line → Bool
 exitRule l = Bool·beq (ends (kindFor (l .means))) (eqb (l .code) 0x09)
 
 abbrev pub rule : Line → Bool
-rule l = lengthRule l && allowedRule l && apartRule l && formatARule l && vectorRule l && secondRule l && exitRule l
+rule l = lengthRule l && allowedRule l && apartRule l && formatARule l && vectorRule l && secondRule l && resultRule l && exitRule l
 
 pub codes-ascend : T (ascending 0 table)
 codes-ascend = tt

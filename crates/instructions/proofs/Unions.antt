@@ -24,7 +24,7 @@ or-half a b =
     omega arith
 
 -- a union of three, either way round, of numbers of k bits
-or-assoc : (k a b c : ℕ) → a < 2 ^ k → b < 2 ^ k → c < 2 ^ k → bitOr (bitOr a b) c ≡ bitOr a (bitOr b c)
+pub or-assoc : (k a b c : ℕ) → a < 2 ^ k → b < 2 ^ k → c < 2 ^ k → bitOr (bitOr a b) c ≡ bitOr a (bitOr b c)
 or-assoc zero a b c p q r =
     let x : a ≡ 0 = omega arith in
     let y : b ≡ 0 = omega arith in

@@ -1,4 +1,5 @@
-// A deck: the text of a job's state. A line is a name and its numbers in hex; # begins a comment. What no line says is zero, but `memory` and `p` have to be there.
+// A deck: the text of a job's state. A line is a name and its numbers in hex; # begins a comment. What no line says is zero, but `memory` and `p` have to be
+// there.
 //     memory LENGTH     in bytes
 //     p ADDRESS         where the job stands
 //     mark N   held WORD   items N   flags WORD

@@ -11,7 +11,8 @@ use instructions::verdict;
 use lines::decimal;
 use lines::hex;
 use lines::text;
-use runs::answers::of_number;
+use runs::answers::Said;
+use runs::answers::said_by;
 
 // One designator, where it is not 00.
 fn designator(name: &[u8], value: u64) {
@@ -55,11 +56,12 @@ fn digits_of(word: u64) {
     }
 }
 
-// What refuses it, or how many items it has.
+// The answer that its checks give, or how many items it has.
 fn outlook(word: u64, refused: u64, items: u64) {
-    if refused != 0 {
+    let said = said_by(refused);
+    if let Said::Ends(answer) = said {
         text(b"; ");
-        answers::tell(of_number(refused));
+        answers::tell(answer);
         return;
     }
     if instruction::by_items(word) {

@@ -1,4 +1,4 @@
--- One call after others: what they come to together. Assumes nothing.
+-- One call after others: what they come to together.
 use mathlib.Core.Path.{_≡_, refl, sym, _∙_, ap}
 use mathlib.Core.Bool.{Bool, true, false, false≢true, _&&_}
 use mathlib.Core.List.{List}
@@ -9,26 +9,17 @@ use borrow.Author.Tests.{ltb-true, ltb-false}
 use Rattle.runs.specs.declared.calls.Outcome.{Outcome}
 use Rattle.runs.specs.Answers.{paused}
 use Rattle.runs.specs.Steps.{State, at}
-use Rattle.runs.specs.Calls.{Call, called, afterwards, run}
-use Rattle.runs.proofs.Ending.{Ran, lengths-wrong, not-possible, all-used, stopped, ran, run-split}
+use Rattle.runs.specs.Calls.{Call, leaves, afterwards, run}
+use Rattle.runs.proofs.Ending.{ran, run-split}
+use Rattle.runs.proofs.Lending.{steps-most}
 use Rattle.runs.proofs.Theorems.{ended-stays}
 use Rattle.replay.specs.Parts.{goesOn, together}
 
--- no call takes more steps than its budget
-no-more : (n : ℕ) (s : State) → run n s .steps ≤ n
-no-more n s = go (run n s) (ran n s)
-  where
-    go : (c : Call) → Ran n s c → c .steps ≤ n
-    go c (lengths-wrong _ e) = rw e (omega arith)
-    go c (not-possible _ _ e) = rw e (omega arith)
-    go c (all-used _ _ _ e) = rw e (omega arith)
-    go c (stopped _ _ _ _ low _ _ e) = rw e (omega arith)
-
--- nor does what calls of n steps in all came to
-pub steps-of : (n : ℕ) (s : State) (b m : ℕ) (r : List ℕ) (o : Outcome) → called b m r o ≡ run n s → o .steps ≤ n
+-- what calls of n steps in all came to took no more
+pub steps-of : (n : ℕ) (s : State) (b m : ℕ) (r : List ℕ) (o : Outcome) → leaves (at b m r) o ≡ run n s → o .steps ≤ n
 steps-of n s b m r o e =
     let f : o .steps ≡ run n s .steps = ap (λ (c : Call). c .steps) e in
-    omega (arith, no-more n s)
+    omega (arith, steps-most n s (run n s) (ran n s))
 
 -- where there is a call to make, steps are left
 pub goes : (o : Outcome) (left : ℕ) → goesOn o left ≡ true → 0 < left
@@ -38,16 +29,17 @@ goes o left = go (paused (o .answer))
     go true e = ltb-true 0 left e
     go false e = absurd (false≢true e)
 
-module _ (j : ℕ) (s : State) (b m : ℕ) (r : List ℕ) (o : Outcome) (e : called b m r o ≡ run j s) where
+module _ (j : ℕ) (s : State) (b m : ℕ) (r : List ℕ) (o : Outcome) (e : leaves (at b m r) o ≡ run j s) where
   -- a call of k steps more, on what calls of j steps in all left
-  pub further : (k n b' m' : ℕ) (r' : List ℕ) (o' : Outcome) → 0 < k → j + k ≡ n → called b' m' r' o' ≡ run k (at b m r (o .rec)) → called b' m' r' (together o o') ≡ run n s
-  further k n b' m' r' o' some all f = ap (afterwards (called b m r o)) f ∙ sym (rw (sym e) at (run-split j k s some)) ∙ rw all
+  pub further : (k n b' m' : ℕ) (r' : List ℕ) (o' : Outcome) → 0 < k → j + k ≡ n → leaves (at b' m' r') o' ≡ run k (at b m r (o .rec))
+      → leaves (at b' m' r') (together o o') ≡ run n s
+  further k n b' m' r' o' some all f = ap (afterwards (leaves (at b m r) o)) f ∙ sym (rw (sym e) at (run-split j k s some)) ∙ rw all
 
   -- where no call is to be made, what is left would change nothing
-  pub over : (left n : ℕ) → j + left ≡ n → goesOn o left ≡ false → called b m r o ≡ run n s
+  pub over : (left n : ℕ) → j + left ≡ n → goesOn o left ≡ false → leaves (at b m r) o ≡ run n s
   over left n all = go (paused (o .answer)) refl
     where
-      go : (p : Bool) → paused (o .answer) ≡ p → (p && ltb 0 left) ≡ false → called b m r o ≡ run n s
+      go : (p : Bool) → paused (o .answer) ≡ p → (p && ltb 0 left) ≡ false → leaves (at b m r) o ≡ run n s
       go true _ f =
           let z : n ≡ j = omega (arith, all, ltb-false 0 left f) in
           rw z e

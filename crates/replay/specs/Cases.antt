@@ -1,4 +1,4 @@
--- The space that holds a case and then its result. Assumes nothing.
+-- The space that holds a case and then its result.
 use mathlib.Core.Path.{_≡_}
 use mathlib.Core.List.{List}
 use Prim.Native.Nat.{ℕ}

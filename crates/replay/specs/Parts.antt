@@ -1,4 +1,4 @@
--- Calls one after another. Assumes nothing.
+-- Calls one after another.
 use mathlib.Core.Bool.{Bool, _&&_}
 use Prim.Native.Nat.{ℕ, _+_}
 use lib.Dec.{ltb}

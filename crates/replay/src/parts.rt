@@ -1,10 +1,8 @@
 // The calls of a case: one, or calls of `part` steps one after another. They come to what one call comes to.
 ghost use mathlib.Core.Path.{_≡_};
-ghost use Prim.Native.Nat.{_+_, _≤_, _<_, _^_, min};
-ghost use lib.ListN.{length};
-ghost use Rattle.fields.specs.Bytes.{num};
-ghost use Rattle.runs.specs.Steps.{at};
-ghost use Rattle.runs.specs.Calls.{called, run};
+ghost use Prim.Native.Nat.{_+_, _<_, _^_, min};
+ghost use Rattle.runs.specs.Steps.{lentAt};
+ghost use Rattle.runs.specs.Calls.{leaves, run};
 ghost use Rattle.replay.specs.Parts.{goesOn, together};
 use runs::answers::is_paused;
 use runs::calls;
@@ -51,7 +49,7 @@ fn in_parts(
     part: u32,
 ) -> Outcome
     requires { ⌜ 0 < part ⌝ }
-    ensures { λ r. ⌜ called (length (now (memory .exit))) (num (now (memory .exit))) (now (registers .exit)) r ≡ run budget (at (length (now (memory .entry))) (num (now (memory .entry))) (now (registers .entry)) rec) ⌝ }
+    ensures { λ r. ⌜ leaves (lentAt (now (memory .exit)) (now (registers .exit))) r ≡ run budget (lentAt (now (memory .entry)) (now (registers .entry)) rec) ⌝ }
 {
     let first = least(part, budget);
     let mut left = budget - first;
@@ -73,7 +71,7 @@ pub fn work(
     budget: u32,
     part: u32,
 ) -> Outcome
-    ensures { λ r. ⌜ called (length (now (memory .exit))) (num (now (memory .exit))) (now (registers .exit)) r ≡ run budget (at (length (now (memory .entry))) (num (now (memory .entry))) (now (registers .entry)) rec) ⌝ }
+    ensures { λ r. ⌜ leaves (lentAt (now (memory .exit)) (now (registers .exit))) r ≡ run budget (lentAt (now (memory .entry)) (now (registers .entry)) rec) ⌝ }
 {
     if part == 0 {
         return calls::run(memory, registers, rec, budget);

@@ -1,18 +1,18 @@
--- What each of the four ways in which a call ends says of its answer, its steps and its state. Assumes nothing.
+-- What each of the four ways in which a call ends says of its answer, its steps and its state.
 use mathlib.Core.Path.{_≡_, refl, sym, _∙_, ap}
 use mathlib.Core.Bool.{true, false, false≢true}
 use mathlib.Core.Logic.{_⊎_, inl, inr}
 use Prim.Native.Nat.{ℕ, _+_}
 use native.Mathlib.Omega.{arith}
 use lib.ListN.{length}
-use Rattle.runs.specs.Answers.{numberOf, paused}
+use Rattle.runs.specs.Answers.{numberOf, saidOf, paused, OfChecks}
 use Rattle.runs.specs.Records.{possible}
 use Rattle.runs.specs.Steps.{State, next, strides}
 use Rattle.runs.specs.Calls.{lengthsRight, Sound, Refused, Call, run}
-use Rattle.runs.proofs.Numbered.{Later, later}
+use Rattle.runs.proofs.Numbered.{said-number, Later, later}
 use Rattle.runs.proofs.Soundness.{strides-sound}
 use Rattle.runs.proofs.Performing.{step-refused}
-use Rattle.runs.proofs.Ending.{Ran, lengths-wrong, not-possible, all-used, stopped, run-of, why, ends-checked}
+use Rattle.runs.proofs.Ending.{Ran, lengths-wrong, not-possible, all-used, stopped, run-of, why, why-number, ends-checked}
 
 -- a larger budget
 pub stays : (n k : ℕ) (s : State) (c : Call) → Ran n s c → paused (c .answer) ≡ false → run (n + k) s ≡ c
@@ -35,14 +35,6 @@ says-0 n s c (lengths-wrong p e) h = absurd (omega (arith, rw e at h))
 says-0 n s c (not-possible p q e) h = absurd (omega (arith, rw e at h))
 says-0 n s c (all-used t ok e is) h = (ok, (rw is, rw is e))
 says-0 n s c (stopped i t a ok low e q is) h = absurd (later (numberOf a) (ends-checked t a (strides-sound i s t ok e) q) .not-0 (rw is at h))
-
-pub all-steps : (n : ℕ) (s : State) (c : Call) → Ran n s c → Sound s → c .steps ≡ n → numberOf (c .answer) ≡ 0
-all-steps n s c (lengths-wrong p e) ok h = absurd (false≢true (sym p ∙ ok .lengths))
-all-steps n s c (not-possible p q e) ok h = absurd (false≢true (sym q ∙ ok .can))
-all-steps n s c (all-used t _ e is) ok h = rw is
-all-steps n s c (stopped i t a _ low e q is) ok h =
-    let f : i ≡ n = rw is at h in
-    absurd (omega arith)
 
 -- 2 and 3
 pub says-2 : (n : ℕ) (s : State) (c : Call) → Ran n s c → numberOf (c .answer) ≡ 2 → lengthsRight (s .bytes) (length (s .registers)) ≡ false
@@ -73,10 +65,9 @@ says-checked n s c (not-possible p q e) l = absurd (l .not-3 (rw e))
 says-checked n s c (all-used t ok e is) l = absurd (l .not-0 (rw is))
 says-checked n s c (stopped i t a ok low e q is) l =
     let w = why t a (strides-sound i s t ok e) q in
-    rw is (record { sound = ok; fewer = low; reached = e; unmarked = w .unmarked; verdict = sym (w .number) })
+    rw is (record { sound = ok; fewer = low; reached = e; unmarked = w .unmarked; verdict = sym (why-number t a w) })
 
-pub checked-says : (n : ℕ) (s : State) (v j : ℕ) (t : State) → Later v → Refused n s v j t → numberOf (run n s .answer) ≡ v
-checked-says n s v j t l r =
-    let q = step-refused t (r .unmarked) (λ e. l .not-0 (sym (r .verdict) ∙ e)) in
-    let w = why t _ (strides-sound j s t (r .sound) (r .reached)) q in
-    ap (λ (c : Call). numberOf (c .answer)) (run-of n s _ (stopped j t _ (r .sound) (r .fewer) (r .reached) q refl)) ∙ w .number ∙ r .verdict
+pub checked-says : (n : ℕ) (s : State) (v j : ℕ) (t : State) → OfChecks v → Refused n s v j t → numberOf (run n s .answer) ≡ v
+checked-says n s v j t (a, said) r =
+    let q = step-refused t a (r .unmarked) (ap saidOf (r .verdict) ∙ said) in
+    ap (λ (c : Call). numberOf (c .answer)) (run-of n s _ (stopped j t a (r .sound) (r .fewer) (r .reached) q refl)) ∙ said-number v a said

@@ -1,13 +1,11 @@
--- The items of a word are steps one by one: doing j of them at once is j steps of the definition. Assumes nothing.
+-- The items of a word are steps one by one: doing j of them at once is j steps of the definition.
 use mathlib.Core.Path.{_≡_, subst, _∙_, ap}
 use mathlib.Core.Bool.{true}
 use mathlib.Core.List.{List}
 use Prim.Native.Nat.{ℕ, zero, suc, _+_, _-_, _<_, _≤_, min}
 use native.Mathlib.Omega.{arith}
 use lib.Dec.{leb, eqb}
-use lib.ListN.{length}
 use borrow.Author.Tests.{lt-ltb, le-ltb, le-leb, ne-eqb, eqb-true, leb-true, ltb-true}
-use Rattle.fields.specs.Bytes.{num}
 use Rattle.instructions.specs.declared.operands.Operands.{Operands}
 use Rattle.instructions.specs.Fetch.{lengthOf}
 use Rattle.instructions.specs.Operands.{gathered}
@@ -18,7 +16,7 @@ use Rattle.instructions.proofs.Steps.{works-more}
 use Rattle.runs.specs.declared.records.Record.{Record}
 use Rattle.runs.specs.declared.performs.Performed.{Performed}
 use Rattle.runs.specs.Records.{halfDone, half, between}
-use Rattle.runs.specs.Steps.{State, at, Stepped, next, after, worksAt, burst, held, step, bind, strides}
+use Rattle.runs.specs.Steps.{State, at, lentAt, Stepped, next, after, worksAt, burst, held, step, bind, strides}
 use Rattle.runs.specs.Inner.{Performs, Bursts}
 use Rattle.runs.proofs.Choices.{and-true}
 
@@ -106,22 +104,23 @@ pub strides-some : (word i : ℕ) (s : State) → Stands s word → step s ≡ n
 strides-some word i s h first zero some few = absurd (omega arith)
 strides-some word i s h first (suc j) some few = strides-burst word i s h first j few
 
-performs-known : (m registers : List ℕ) (c : Record) (word i most : ℕ) → Stands (at (length m) (num m) registers c) word
-    → step (at (length m) (num m) registers c) ≡ next (burst word (gathered word registers) i 1 (at (length m) (num m) registers c))
+performs-known : (m registers : List ℕ) (c : Record) (word i most : ℕ) → Stands (lentAt m registers c) word
+    → step (lentAt m registers c) ≡ next (burst word (gathered word registers) i 1 (lentAt m registers c))
     → i < countOf word (gathered word registers) → 0 < most
     → (m' : List ℕ) (r : Performed) → Bursts m c word (gathered word registers) i (min (countOf word (gathered word registers) - i) most) m' r
-    → Performs (at (length m) (num m) registers c) most (length m') (num m') registers r
+    → Performs (lentAt m registers c) most (lentAt m' registers) r
 unfolding burst
 performs-known m registers c word i most h first short some m' r b =
+    let j = min (countOf word (gathered word registers) - i) most in
     rw (b .did, b .memory, b .as-long)
-    (omega arith, (omega arith, strides-some word i (at (length m) (num m) registers c) h first (min (countOf word (gathered word registers) - i) most) (omega arith) (omega arith)))
+    (omega arith, (omega arith, strides-some word i (lentAt m registers c) h first j (omega arith) (omega arith)))
 
 -- what `go_on` does is what `Performs` asks
 pub performs-burst : (m registers : List ℕ) (c : Record) (word : ℕ) (o : Operands) (i most : ℕ) → o ≡ gathered word registers
-    → Stands (at (length m) (num m) registers c) word
-    → step (at (length m) (num m) registers c) ≡ next (burst word (gathered word registers) i 1 (at (length m) (num m) registers c))
+    → Stands (lentAt m registers c) word
+    → step (lentAt m registers c) ≡ next (burst word (gathered word registers) i 1 (lentAt m registers c))
     → i < countOf word (gathered word registers) → 0 < most
     → (m' : List ℕ) (r : Performed) → Bursts m c word o i (min (countOf word o - i) most) m' r
-    → Performs (at (length m) (num m) registers c) most (length m') (num m') registers r
+    → Performs (lentAt m registers c) most (lentAt m' registers) r
 performs-burst m registers c word o i most named h first short some m' r does =
     performs-known m registers c word i most h first short some m' r (subst (λ (x : Operands). Bursts m c word x i (min (countOf word x - i) most) m' r) named does)

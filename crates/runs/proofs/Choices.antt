@@ -1,4 +1,4 @@
--- Tests, and what is picked by them. Assumes nothing.
+-- Tests, and what is picked by them.
 use mathlib.Core.Path.{_≡_, refl, sym}
 use mathlib.Core.Bool.{Bool, true, false, cond, _&&_, _||_, false≢true}
 use Prim.Native.Nat.{ℕ, zero, suc, _<_}

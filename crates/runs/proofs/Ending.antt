@@ -1,20 +1,21 @@
--- The four ways in which a call ends, and that there is no other. Assumes nothing.
+-- The four ways in which a call ends, and that there is no other.
 use mathlib.Core.Path.{_≡_, refl, sym, _∙_, ap}
 use mathlib.Core.Bool.{Bool, true, false}
 use mathlib.Core.Logic.{_⊎_, inl, inr}
-use Prim.Native.Nat.{ℕ, _+_, _-_, _<_, _≤_}
+use Prim.Native.Nat.{ℕ, _+_, _-_, _<_}
 use native.Mathlib.Omega.{arith}
 use lib.Dec.{eqb}
 use lib.ListN.{length}
 use borrow.Author.Tests.{eqb-true, eqb-false}
-use Rattle.instructions.proofs.Steps.{verdict-known}
 use Rattle.runs.specs.declared.answers.Answer.{Answer}
 use Rattle.runs.specs.declared.answers.Answer.the-variants.{Paused, Lengths, Impossible}
-use Rattle.runs.specs.Answers.{numberOf, answerOf, OfChecks}
+use Rattle.runs.specs.declared.answers.Said.{Said}
+use Rattle.runs.specs.declared.answers.Said.the-variants.{Ends, Allows}
+use Rattle.runs.specs.Answers.{numberOf, saidOf, OfChecks}
 use Rattle.runs.specs.Records.{possible}
-use Rattle.runs.specs.Steps.{State, ended, next, wordAt, operandsAt, verdictAt, step, strides}
+use Rattle.runs.specs.Steps.{State, ended, next, verdictAt, step, strides}
 use Rattle.runs.specs.Calls.{Stopped, iterate, lengthsRight, Sound, Call, call, closed, afterwards, run}
-use Rattle.runs.proofs.Numbered.{number-answer}
+use Rattle.runs.proofs.Numbered.{said-number, allows-passes}
 use Rattle.runs.proofs.Soundness.{strides-sound, possible-marked}
 use Rattle.runs.proofs.Iterating.{iterate-strides, iterate-ended, Came, came}
 use Rattle.runs.proofs.Bursting.{step-held}
@@ -81,44 +82,39 @@ ran n s = go (lengthsRight (s .bytes) (length (s .registers))) refl (possible (s
     go true p false q = not-possible p q (run-impossible n s p q)
     go false p b q = lengths-wrong p (run-lengths n s p)
 
--- a sound state whose next step ends stands between two instructions, and the verdict on its word is why
+-- a sound state whose next step ends stands between two instructions, and what the checks say of its word is why
 pub record Why (t : State) (a : Answer) : Type 0 where
   pub unmarked : t .rec .mark ≡ 0
-  pub refused : verdictAt t ≡ 0 → ⊥
-  pub number : numberOf a ≡ verdictAt t
+  pub said : saidOf (verdictAt t) ≡ Ends a
 
 pub why : (t : State) (a : Answer) → Sound t → step t ≡ ended a → Why t a
 why t a ok e = marked (eqb (t .rec .mark) 0) refl
   where
-    verdicts : t .rec .mark ≡ 0 → (b : Bool) → eqb (verdictAt t) 0 ≡ b → Why t a
-    verdicts m true q =
-        let f = step-begun t m (eqb-true _ _ q) in
+    checked : t .rec .mark ≡ 0 → (x : Said) → saidOf (verdictAt t) ≡ x → Why t a
+    checked m (Ends b) q =
+        let f = step-refused t b m q in
+        let g : b ≡ a = cc in
+        record { unmarked = m; said = q ∙ ap (λ (c : Answer). Ends c) g }
+    checked m Allows q =
+        let f = step-begun t m (allows-passes t q) in
         let z : _≡_ {A = ℕ} 0 1 = cc in
         absurd (omega arith)
-    verdicts m false q =
-        let d : verdictAt t ≡ 0 → ⊥ = eqb-false _ _ q in
-        let f = step-refused t m d in
-        let g : a ≡ answerOf (verdictAt t) = cc in
-        record {
-          unmarked = m;
-          refused = d;
-          number = ap numberOf g ∙ number-answer (verdictAt t) (verdict-known (t .rec .p) (wordAt t) (operandsAt t) (t .bytes)) d;
-        }
 
     marked : (b : Bool) → eqb (t .rec .mark) 0 ≡ b → Why t a
-    marked true q = verdicts (eqb-true _ _ q) (eqb (verdictAt t) 0) refl
+    marked true q = checked (eqb-true _ _ q) (saidOf (verdictAt t)) refl
     marked false q =
         let f = step-held t (possible-marked (t .bytes) (t .registers) (t .rec) (ok .can) (eqb-false _ _ q)) in
         let z : _≡_ {A = ℕ} 0 1 = cc in
         absurd (omega arith)
 
--- a step ends in 1 or in 4 to 11
+-- the answer's number is the verdict, and that of one of `refusals`
+pub why-number : (t : State) (a : Answer) → Why t a → numberOf a ≡ verdictAt t
+why-number t a w = said-number (verdictAt t) a (w .said)
+
 pub ends-checked : (t : State) (a : Answer) → Sound t → step t ≡ ended a → OfChecks (numberOf a)
-ends-checked t a ok e = go (why t a ok e) (verdict-known (t .rec .p) (wordAt t) (operandsAt t) (t .bytes))
-  where
-    go : Why t a → (verdictAt t ≤ 1) ⊎ ((4 ≤ verdictAt t) × (verdictAt t ≤ 11)) → OfChecks (numberOf a)
-    go w (inl low) = inl (omega (arith, w .number, w .refused))
-    go w (inr high) = inr (omega (arith, w .number, high .0), omega (arith, w .number, high .1))
+ends-checked t a ok e =
+    let w = why t a ok e in
+    (a, ap saidOf (why-number t a w) ∙ w .said)
 
 -- a call at a state whose next step ends
 run-still : (k : ℕ) (t : State) (a : Answer) → 0 < k → Sound t → step t ≡ ended a → run k t ≡ call t a 0

@@ -1,4 +1,4 @@
--- As many steps as a budget allows: how they add up, and why they stop. Assumes nothing.
+-- As many steps as a budget allows: how they add up, and why they stop.
 use mathlib.Core.Path.{_≡_, refl, _∙_, ap}
 use mathlib.Core.Logic.{_⊎_, inl, inr}
 use Prim.Native.Nat.{ℕ, zero, suc, _+_, _-_, _<_, _≤_}

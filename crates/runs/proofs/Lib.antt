@@ -1,6 +1,7 @@
 -- `Theorems` is what the layer promises: open it first. The others are the laws behind it and behind the functions' proofs.
 pub mod Theorems
 pub mod Choices
+pub mod Variants
 pub mod Numbered
 pub mod Bursting
 pub mod Soundness
@@ -15,3 +16,4 @@ pub mod Answering
 pub mod Starts
 pub mod Lending
 pub mod Wholeness
+pub mod Keeping

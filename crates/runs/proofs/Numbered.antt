@@ -1,91 +1,72 @@
--- The answers and their numbers: no step ends in `Paused`. Assumes nothing.
-use mathlib.Core.Path.{_≡_, refl, sym}
-use mathlib.Core.Bool.{true, false, false≢true}
+-- The answers and their numbers: one for each, what is looked up among `refusals`, and that no step ends in `Paused`.
+use mathlib.Core.Path.{_≡_, refl, sym, ap, _∙_}
+use mathlib.Core.Bool.{Bool, true, false, cond, _&&_, false≢true}
+use mathlib.Core.List.{List, [], _∷_}
 use mathlib.Core.Logic.{_⊎_, inl, inr}
-use Prim.Native.Nat.{ℕ, suc, _≤_}
+use Prim.Native.Nat.{ℕ, _<_, _^_}
 use native.Mathlib.Omega.{arith}
-use lib.Dec.{eqb}
-use borrow.Author.Tests.{eqb-true, eqb-false}
+use lib.Dec.{eqb, ltb}
+use borrow.Author.Tests.{eqb-true, ne-eqb, ltb-true}
+use Rattle.instructions.specs.Table.{lookUp}
+use Rattle.instructions.specs.Verdict.{Check, checks}
+use Rattle.instructions.proofs.TablePlaces.{past}
+use Rattle.instructions.proofs.Steps.{NumberIn, verdict-known}
 use Rattle.runs.specs.declared.answers.Answer.{Answer}
-use Rattle.runs.specs.declared.answers.Answer.the-variants.{Paused, Exit, Lengths, Impossible, NotThere, NotListed, NotZero, Designator, Misaligned, Short, Outside, Shared}
-use Rattle.runs.specs.Answers.{numberOf, answerOf, paused, OfChecks}
+use Rattle.runs.specs.declared.answers.Answer.the-variants.{Paused}
+use Rattle.runs.specs.declared.answers.Said.{Said}
+use Rattle.runs.specs.declared.answers.Said.the-variants.{Ends, Allows}
+use Rattle.runs.specs.Answers.{numberOf, refusals, saidOf, paused, OfChecks}
 use Rattle.runs.specs.Records.{halfDone}
-use Rattle.runs.specs.Steps.{State, Stepped, ended, next, verdictAt, fresh, held, step}
-use Rattle.runs.proofs.Choices.{cond-holds, cond-known}
+use Rattle.runs.specs.Steps.{State, Stepped, ended, next, wordAt, operandsAt, verdictAt, begun, answered, fresh, held, step}
+use Rattle.runs.specs.Inner.{Tells}
+use Rattle.runs.proofs.Choices.{cond-holds, and-true}
+use Rattle.runs.proofs.Variants.{all-pass, one-each}
+use Rattle.runs.proofs.answers.Answer.{enum}
+
+-- ---- all answers, computed once
+
+-- no two have one number
+pub one-number : (a b : Answer) → numberOf a ≡ numberOf b → a ≡ b
+one-number = one-each enum tt numberOf refl
+
+-- every number has 32 bits
+pub number-fits : (a : Answer) → numberOf a < 2 ^ 32
+number-fits a = ltb-true _ _ (all-pass enum tt (λ (b : Answer). ltb (numberOf b) (2 ^ 32)) refl a)
 
 -- `Paused` is the only answer that goes on
 pub paused-only : (a : Answer) → paused a ≡ true → a ≡ Paused
-paused-only Paused e = refl
-paused-only Exit e = absurd (false≢true e)
-paused-only Lengths e = absurd (false≢true e)
-paused-only Impossible e = absurd (false≢true e)
-paused-only NotThere e = absurd (false≢true e)
-paused-only NotListed e = absurd (false≢true e)
-paused-only NotZero e = absurd (false≢true e)
-paused-only Designator e = absurd (false≢true e)
-paused-only Misaligned e = absurd (false≢true e)
-paused-only Short e = absurd (false≢true e)
-paused-only Outside e = absurd (false≢true e)
-paused-only Shared e = absurd (false≢true e)
+paused-only a e = one-number a Paused (eqb-true _ _ e)
 
--- the answer of a check's number is not `Paused`
-answer-ends : (n : ℕ) → paused (answerOf n) ≡ false
-unfolding answerOf
-answer-ends n =
-    let P : Answer → Type 0 = λ a. paused a ≡ false in
-    cond-holds P (eqb n 1) _ _ refl
-    (cond-holds P (eqb n 4) _ _ refl
-    (cond-holds P (eqb n 5) _ _ refl
-    (cond-holds P (eqb n 6) _ _ refl
-    (cond-holds P (eqb n 7) _ _ refl
-    (cond-holds P (eqb n 8) _ _ refl
-    (cond-holds P (eqb n 9) _ _ refl
-    (cond-holds P (eqb n 10) _ _ refl refl)))))))
+-- ---- a number looked up
 
--- one number less is left
-above : (n k : ℕ) → k ≤ n → eqb n k ≡ false → suc k ≤ n
-above n k low h =
-    let d = eqb-false n k h in
-    omega arith
+-- 0 ends nothing
+pub said-0 : saidOf 0 ≡ Allows
+unfolding saidOf
+said-0 = refl
 
-four : (n : ℕ) → (n ≤ 1) ⊎ ((4 ≤ n) × (n ≤ 11)) → (n ≡ 0 → ⊥) → eqb n 1 ≡ false → (4 ≤ n) × (n ≤ 11)
-four n (inl low) some h =
-    let d = eqb-false n 1 h in
+-- what the code's cases show is what the list gives
+pub tells-said : (x : Said) (n : ℕ) → Tells x n → x ≡ saidOf n
+unfolding saidOf
+tells-said (Ends a) n h = h .1 ∙ ap (λ (k : ℕ). lookUp numberOf (λ b. Ends b) Allows k refusals) (sym (h .0))
+tells-said Allows n h = sym (past numberOf (λ b. Ends b) Allows n (Unit {0}) refusals [] h)
+
+-- an answer that is given for a number has that number
+given : (n : ℕ) (a : Answer) (bs : List Answer) → lookUp numberOf (λ b. Ends b) Allows n bs ≡ Ends a → numberOf a ≡ n
+given n a [] e =
+    let z : _≡_ {A = ℕ} 0 1 = cc in
     absurd (omega arith)
-four n (inr high) some h = high
-
--- the number of the answer of a number
-pub number-answer : (n : ℕ) → (n ≤ 1) ⊎ ((4 ≤ n) × (n ≤ 11)) → (n ≡ 0 → ⊥) → numberOf (answerOf n) ≡ n
-unfolding answerOf
-number-answer n known some =
-    let P : Answer → Type 0 = λ a. numberOf a ≡ n in
-    cond-known P (eqb n 1) _ _ (λ h. sym (eqb-true n 1 h))
-    (λ h₁. let b₄ = four n known some h₁ in cond-known P (eqb n 4) _ _ (λ h. sym (eqb-true n 4 h))
-    (λ h₄. let b₅ = above n 4 (b₄ .0) h₄ in cond-known P (eqb n 5) _ _ (λ h. sym (eqb-true n 5 h))
-    (λ h₅. let b₆ = above n 5 b₅ h₅ in cond-known P (eqb n 6) _ _ (λ h. sym (eqb-true n 6 h))
-    (λ h₆. let b₇ = above n 6 b₆ h₆ in cond-known P (eqb n 7) _ _ (λ h. sym (eqb-true n 7 h))
-    (λ h₇. let b₈ = above n 7 b₇ h₇ in cond-known P (eqb n 8) _ _ (λ h. sym (eqb-true n 8 h))
-    (λ h₈. let b₉ = above n 8 b₈ h₈ in cond-known P (eqb n 9) _ _ (λ h. sym (eqb-true n 9 h))
-    (λ h₉. let b = above n 9 b₉ h₉ in cond-known P (eqb n 10) _ _ (λ h. sym (eqb-true n 10 h))
-    (λ h. eleven (b₄ .1) (above n 10 b h)))))))))
+given n a (b ∷ bs) e = go (eqb n (numberOf b)) refl (given n a bs) e
   where
-    eleven : n ≤ 11 → 11 ≤ n → 11 ≡ n
-    eleven a b = omega arith
+    go : (t : Bool) → eqb n (numberOf b) ≡ t → (lookUp numberOf (λ b. Ends b) Allows n bs ≡ Ends a → numberOf a ≡ n)
+        → cond t (Ends b) (lookUp numberOf (λ b. Ends b) Allows n bs) ≡ Ends a → numberOf a ≡ n
+    go true q later e =
+        let i : b ≡ a = cc in
+        sym (eqb-true n (numberOf b) q ∙ ap numberOf i)
+    go false q later e = later e
 
-abbrev Fair : Stepped → Type 0
-Fair (ended a) = paused a ≡ false
-Fair (next s) = Unit {0}
-
-step-fair : (s : State) → Fair (step s)
-unfolding step fresh held
-step-fair s =
-    cond-holds Fair (eqb (s .rec .mark) 0) _ _
-    (cond-holds Fair (eqb (verdictAt s) 0) _ _ tt (answer-ends _))
-    (cond-holds Fair (halfDone (s .bytes) (s .registers) (s .rec)) _ _ tt refl)
-
--- a step never ends in `Paused`
-pub step-answers : (s : State) (a : Answer) → step s ≡ ended a → paused a ≡ false
-step-answers s a e = rw e at (step-fair s)
+pub said-number : (n : ℕ) (a : Answer) → saidOf n ≡ Ends a → numberOf a ≡ n
+unfolding saidOf
+said-number n a e = given n a refusals e
 
 -- a number that is neither 0 nor 2 nor 3
 pub record Later (v : ℕ) : Type 0 where
@@ -94,5 +75,62 @@ pub record Later (v : ℕ) : Type 0 where
   pub not-3 : v ≡ 3 → ⊥
 
 pub later : (v : ℕ) → OfChecks v → Later v
-later v (inl one) = record { not-0 = λ e. omega arith; not-2 = λ e. omega arith; not-3 = λ e. omega arith }
-later v (inr four) = record { not-0 = λ e. omega arith; not-2 = λ e. omega arith; not-3 = λ e. omega arith }
+unfolding saidOf
+later v (a, e) = record { not-0 = λ z. never (rw z at e); not-2 = λ z. never (rw z at e); not-3 = λ z. never (rw z at e) }
+  where
+    never : Allows ≡ Ends a → ⊥
+    never q =
+        let z : _≡_ {A = ℕ} 0 1 = cc in
+        omega arith
+
+-- ---- what the checks say
+
+-- every check's number is that of one of `refusals`: computed once
+abbrev ends : Said → Bool
+ends (Ends a) = true
+ends Allows = false
+
+abbrev allEnd : List Check → Bool
+allEnd [] = true
+allEnd (k ∷ ks) = ends (saidOf (k .number)) && allEnd ks
+
+checks-end : allEnd checks ≡ true
+unfolding saidOf
+checks-end = refl
+
+number-ends : (n : ℕ) (ks : List Check) → allEnd ks ≡ true → NumberIn n ks → ends (saidOf n) ≡ true
+number-ends n [] h i = absurd i
+number-ends n (k ∷ ks) h (inl e) = ap (λ (m : ℕ). ends (saidOf m)) e ∙ and-true (ends (saidOf (k .number))) _ h .0
+number-ends n (k ∷ ks) h (inr i) = number-ends n ks (and-true (ends (saidOf (k .number))) _ h .1) i
+
+-- so the step is taken only where no check refuses
+pub allows-passes : (s : State) → saidOf (verdictAt s) ≡ Allows → verdictAt s ≡ 0
+allows-passes s e = go (verdict-known (s .rec .p) (wordAt s) (operandsAt s) (s .bytes))
+  where
+    go : (verdictAt s ≡ 0) ⊎ NumberIn (verdictAt s) checks → verdictAt s ≡ 0
+    go (inl z) = z
+    go (inr i) = absurd (false≢true (sym (ap ends e) ∙ number-ends (verdictAt s) checks checks-end i))
+
+-- ---- a step never ends in `Paused`
+
+abbrev Fair : Stepped → Type 0
+Fair (ended a) = paused a ≡ false
+Fair (next s) = Unit {0}
+
+fresh-fair : (s : State) → Fair (fresh s)
+unfolding fresh
+fresh-fair s = go (saidOf (verdictAt s)) refl
+  where
+    go : (x : Said) → saidOf (verdictAt s) ≡ x → Fair (answered x (begun s))
+    go (Ends a) q =
+        let e = said-number (verdictAt s) a q in
+        ne-eqb (numberOf a) 0 (λ z. later (verdictAt s) (a, q) .not-0 (sym e ∙ z))
+    go Allows q = tt
+
+step-fair : (s : State) → Fair (step s)
+unfolding step held
+step-fair s =
+    cond-holds Fair (eqb (s .rec .mark) 0) _ _ (fresh-fair s) (cond-holds Fair (halfDone (s .bytes) (s .registers) (s .rec)) _ _ tt refl)
+
+pub step-answers : (s : State) (a : Answer) → step s ≡ ended a → paused a ≡ false
+step-answers s a e = rw e at (step-fair s)

@@ -1,4 +1,4 @@
--- Steps of one instruction: what the code of `performs` does is what `Performs` asks, by the way that the code takes. Assumes nothing.
+-- Steps of one instruction: what the code of `performs` does is what `Performs` asks, by the way that the code takes.
 use mathlib.Core.Path.{_≡_, refl, sym, _∙_, ap, ap₂}
 use mathlib.Core.Bool.{Bool, true, false, not, _&&_}
 use mathlib.Core.List.{List}
@@ -16,14 +16,17 @@ use Rattle.instructions.specs.Instruction.{byItems, oneStep, countOf, worksOf, 
 use Rattle.instructions.proofs.Steps.{verdict-there}
 use Rattle.runs.specs.declared.answers.Answer.{Answer}
 use Rattle.runs.specs.declared.answers.Answer.the-variants.{Impossible}
+use Rattle.runs.specs.declared.answers.Said.{Said}
+use Rattle.runs.specs.declared.answers.Said.the-variants.{Ends, Allows}
 use Rattle.runs.specs.declared.records.Record.{Record}
 use Rattle.runs.specs.declared.performs.Performed.{Performed}
 use Rattle.runs.specs.declared.performs.Performed.the-variants.{Did, Ended}
-use Rattle.runs.specs.Answers.{answerOf}
+use Rattle.runs.specs.Answers.{saidOf}
 use Rattle.runs.specs.Records.{halfDone, between}
-use Rattle.runs.specs.Steps.{State, at, ended, next, wordAt, operandsAt, verdictAt, itemsAt, after, burst, passed, finished, acted, begun, fresh, held, step, strides}
+use Rattle.runs.specs.Steps.{State, at, lentAt, ended, next, wordAt, operandsAt, verdictAt, itemsAt, after, burst, passed, finished, acted, begun, answered, fresh, held, step, strides}
 use Rattle.runs.specs.Calls.{lengthsRight}
 use Rattle.runs.specs.Inner.{Goes, Bursts, Performs, oneStepAt}
+use Rattle.runs.proofs.Numbered.{said-0, allows-passes}
 use Rattle.runs.proofs.Bursting.{holds-of, step-held, performs-burst}
 use Rattle.runs.proofs.Soundness.{lengths-of, small}
 
@@ -64,11 +67,11 @@ held-goes bytes registers c o right h named =
 
 pub performs-held : (m registers : List ℕ) (c : Record) (o : Operands) (most : ℕ) → halfDone (length m) registers c ≡ true → o ≡ gathered (c .word) registers → 0 < most
     → (m' : List ℕ) (r : Performed) → Bursts m c (c .word) o (c .items) (min (countOf (c .word) o - c .items) most) m' r
-    → Performs (at (length m) (num m) registers c) most (length m') (num m') registers r
+    → Performs (lentAt m registers c) most (lentAt m' registers) r
 performs-held m registers c o most h named some m' r b =
     let holds = holds-of (length m) registers c h in
     performs-burst m registers c (c .word) o (c .items) most named (record { passes = holds .passes; of-items = holds .of-items })
-    (step-held (at (length m) (num m) registers c) h) (holds .short) some m' r b
+    (step-held (lentAt m registers c) h) (holds .short) some m' r b
 
 pub step-impossible : (s : State) → (s .rec .mark ≡ 0 → ⊥) → halfDone (s .bytes) (s .registers) (s .rec) ≡ false → step s ≡ ended Impossible
 unfolding step held
@@ -83,12 +86,12 @@ step-fresh s m = rw (eq-eqb _ _ m)
 -- a word that passes
 pub step-begun : (s : State) → s .rec .mark ≡ 0 → verdictAt s ≡ 0 → step s ≡ next (begun s)
 unfolding fresh
-step-begun s m passes = step-fresh s m ∙ rw (eq-eqb _ _ passes)
+step-begun s m passes = step-fresh s m ∙ ap (λ (x : Said). answered x (begun s)) (ap saidOf passes ∙ said-0)
 
 -- a word that does not
-pub step-refused : (s : State) → s .rec .mark ≡ 0 → (verdictAt s ≡ 0 → ⊥) → step s ≡ ended (answerOf (verdictAt s))
+pub step-refused : (s : State) (a : Answer) → s .rec .mark ≡ 0 → saidOf (verdictAt s) ≡ Ends a → step s ≡ ended a
 unfolding fresh
-step-refused s m d = step-fresh s m ∙ rw (ne-eqb (verdictAt s) 0 d)
+step-refused s a m said = step-fresh s m ∙ ap (λ (x : Said). answered x (begun s)) said
 
 -- the first step of a word that passes, by its kind
 pub step-passed : (s : State) → s .rec .mark ≡ 0 → verdictAt s ≡ 0 → byItems (wordAt s) ≡ true → itemsAt s ≡ 0 → step s ≡ next (passed s)
@@ -137,30 +140,34 @@ fetched-past s word o v right f zero =
     let most : s .bytes ≤ 65536 = small (s .bytes) lent in
     omega arith
 
-pub performs-refused : (s : State) (word : ℕ) (o : Operands) (v most : ℕ) (a : Answer) → Fetched s word o v → (v ≡ 0 → ⊥) → a ≡ answerOf v
-    → Performs s most (s .bytes) (s .memory) (s .registers) (Ended a)
-performs-refused s word o v most a f some is =
-    let e = verdict-is s word o v f in
-    (step-refused s (f .unmarked) (λ z. some (e ∙ z)) ∙ ap ended (ap answerOf (sym e) ∙ sym is), (refl, (refl, refl)))
+pub performs-refused : (s : State) (word : ℕ) (o : Operands) (v most : ℕ) (a : Answer) → Fetched s word o v → saidOf v ≡ Ends a
+    → Performs s most (at (s .bytes) (s .memory) (s .registers)) (Ended a)
+performs-refused s word o v most a f said = (step-refused s a (f .unmarked) (ap saidOf (sym (verdict-is s word o v f)) ∙ said), refl)
 
-performs-step : (s : State) (most bytes m : ℕ) (r : List ℕ) (c : Record) → 0 < most → step s ≡ next (at bytes m r c) → Performs s most bytes m r (Did c 1)
+-- what the checks allow, none of them refuses
+pub fetched-passes : (s : State) (word : ℕ) (o : Operands) (v : ℕ) → Fetched s word o v → saidOf v ≡ Allows → v ≡ 0
+fetched-passes s word o v f said =
+    let e = verdict-is s word o v f in
+    e ∙ allows-passes s (ap saidOf (sym e) ∙ said)
+
+performs-step : (s : State) (most : ℕ) (there : Record → State) (c : Record) → 0 < most → step s ≡ next (there c) → Performs s most there (Did c 1)
 unfolding strides
-performs-step s most bytes m r c some e = (omega arith, (omega arith, e))
+performs-step s most there c some e = (omega arith, (omega arith, e))
 
 pub performs-passed : (s : State) (word : ℕ) (o : Operands) (v most n long : ℕ) (c : Record) → Fetched s word o v → v ≡ 0 → byItems word ≡ true → n ≡ countOf word o → n ≡ 0
     → 0 < most → long ≡ lengthOf word → c ≡ between (s .rec .p + long) (s .rec .flags)
-    → Performs s most (s .bytes) (s .memory) (s .registers) (Did c 1)
+    → Performs s most (at (s .bytes) (s .memory) (s .registers)) (Did c 1)
 performs-passed s word o v most n long c f zero is count none some bits e =
-    performs-step s most _ _ _ c some
+    performs-step s most (at (s .bytes) (s .memory) (s .registers)) c some
     (step-passed s (f .unmarked) (sym (verdict-is s word o v f) ∙ zero) (ap byItems (sym (f .read)) ∙ is) (sym (items-are s word o v f) ∙ sym count ∙ none)
     ∙ ap (λ (x : Record). next (at (s .bytes) (s .memory) (s .registers) x)) (sym (e ∙ ap (λ (k : ℕ). between (s .rec .p + k) (s .rec .flags)) (bits ∙ ap lengthOf (f .read)))))
 
-pub performs-first : (m registers : List ℕ) (c : Record) (word : ℕ) (o : Operands) (v most : ℕ) → Fetched (at (length m) (num m) registers c) word o v → v ≡ 0 → byItems word ≡ true
-    → 0 < countOf word o → 0 < most
+pub performs-first : (m registers : List ℕ) (c : Record) (word : ℕ) (o : Operands) (v most : ℕ) → Fetched (lentAt m registers c) word o v → v ≡ 0
+    → byItems word ≡ true → 0 < countOf word o → 0 < most
     → (m' : List ℕ) (r : Performed) → Bursts m c word o 0 (min (countOf word o - 0) most) m' r
-    → Performs (at (length m) (num m) registers c) most (length m') (num m') registers r
+    → Performs (lentAt m registers c) most (lentAt m' registers) r
 performs-first m registers c word o v most f zero is some budget m' r b =
-    let s = at (length m) (num m) registers c in
+    let s = lentAt m registers c in
     let passes : verdictOf (c .p) word (gathered word registers) (length m) ≡ 0 = ap (λ (x : Operands). verdictOf (c .p) word x (length m)) (sym (f .named)) ∙ sym (f .verdict) ∙ zero in
     let count = items-are s word o v f in
     let few : 0 < countOf word (gathered word registers) = rw (← (f .named)) some in
@@ -172,9 +179,9 @@ performs-first m registers c word o v most f zero is some budget m' r b =
 pub performs-acted : (s : State) (word : ℕ) (o : Operands) (v most : ℕ) → Fetched s word o v → v ≡ 0 → byItems word ≡ false → 0 < most
     → (bytes m : ℕ) (r : List ℕ) (p f : ℕ) (c : Record) → bytes ≡ s .bytes
     → done m r p f ≡ actsOf (s .rec .p) word o (s .bytes) (s .memory) (s .registers) (s .rec .flags) → c ≡ between p f
-    → Performs s most bytes m r (Did c 1)
+    → Performs s most (at bytes m r) (Did c 1)
 performs-acted s word o v most g zero other some bytes m r p f c long e is =
-    performs-step s most bytes m r c some
+    performs-step s most (at bytes m r) c some
     (step-acted s (g .unmarked) (sym (verdict-is s word o v g) ∙ zero) (ap byItems (sym (g .read)) ∙ other)
     ∙ ap next
     (ap (finished (s .bytes)) (sym (e ∙ ap₂ (λ (w : ℕ) (x : Operands). actsOf (s .rec .p) w x (s .bytes) (s .memory) (s .registers) (s .rec .flags)) (g .read) (operands-are s word o v g)))

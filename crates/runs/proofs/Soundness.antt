@@ -1,4 +1,4 @@
--- A step leaves the lengths right and the record possible where they were. Assumes nothing.
+-- A step leaves the lengths right and the record possible where they were.
 use mathlib.Core.Path.{_≡_, refl}
 use mathlib.Core.Bool.{true, false, _&&_, _||_}
 use mathlib.Core.List.{List}
@@ -15,11 +15,15 @@ use Rattle.instructions.specs.Verdict.{verdictOf}
 use Rattle.instructions.specs.Items.{worked}
 use Rattle.instructions.specs.Instruction.{byItems, countOf}
 use Rattle.instructions.proofs.Steps.{works-flags, verdict-there, length-whole, acts-registers, acts-flags, acts-place}
+use Rattle.runs.specs.declared.answers.Said.{Said}
+use Rattle.runs.specs.declared.answers.Said.the-variants.{Ends, Allows}
 use Rattle.runs.specs.declared.records.Record.{Record}
+use Rattle.runs.specs.Answers.{saidOf}
 use Rattle.runs.specs.Records.{flagsRight, placeRight, betweenTwo, halfDone, possible, half, between}
-use Rattle.runs.specs.Steps.{State, Stepped, ended, next, wordAt, operandsAt, verdictAt, itemsAt, after, burst, passed, acted, begun, fresh, held, step, bind, strides}
+use Rattle.runs.specs.Steps.{State, Stepped, ended, next, wordAt, operandsAt, verdictAt, itemsAt, after, burst, passed, acted, begun, answered, fresh, held, step, bind, strides}
 use Rattle.runs.specs.Calls.{lengthsRight, Sound}
 use Rattle.runs.proofs.Choices.{cond-holds, cond-known, and-true, or-false}
+use Rattle.runs.proofs.Numbered.{allows-passes}
 use Rattle.runs.proofs.Bursting.{Stands, holds-of, half-holds}
 
 -- LENGTHS AND RECORDS, BY PARTS
@@ -125,7 +129,11 @@ Keeps (next t) = Sound t
 
 fresh-keeps : (s : State) → Sound s → Keeps (fresh s)
 unfolding fresh
-fresh-keeps s ok = cond-known Keeps (eqb (verdictAt s) 0) _ _ (λ q. begun-sound s ok (eqb-true _ _ q)) (λ _. tt)
+fresh-keeps s ok = go (saidOf (verdictAt s)) refl
+  where
+    go : (x : Said) → saidOf (verdictAt s) ≡ x → Keeps (answered x (begun s))
+    go (Ends a) q = tt
+    go Allows q = begun-sound s ok (allows-passes s q)
 
 held-keeps : (s : State) → Sound s → Keeps (held s)
 unfolding held

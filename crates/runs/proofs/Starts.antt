@@ -1,4 +1,4 @@
--- Starts that are computed: the smallest memory, nothing lent, and a job of three instructions. Assumes nothing.
+-- Starts that are computed: the smallest memory, nothing lent, and a job of three instructions.
 use mathlib.Core.Path.{_≡_, refl, sym, ap}
 use mathlib.Core.Bool.{false≢true}
 use mathlib.Core.List.{List, [], _∷_}
@@ -7,7 +7,7 @@ use native.Mathlib.Omega.{arith}
 use lib.Dec.{eqb}
 use lib.ListN.{replicate}
 use Rattle.fields.specs.Extents.{aligned, inside, shares, inPlace}
-use Rattle.instructions.specs.Table.{found}
+use Rattle.instructions.specs.Table.{found, meaningOf}
 use Rattle.instructions.specs.Words.{notZero}
 use Rattle.instructions.specs.Operands.{named, gathered}
 use Rattle.instructions.specs.Layout.{sourceOf, shortOf, controlOf, vectorOf, ofKind, fieldsOf}
@@ -16,11 +16,12 @@ use Rattle.instructions.specs.Fetch.{longIn, there, fetchOf, unfetchedAt}
 use Rattle.instructions.specs.Verdict.{misaligned, outside, overlapping, verdictOf}
 use Rattle.instructions.specs.Items.{Worked, storedAt, madeAt, itemAt, flagsAt}
 use Rattle.instructions.specs.Plan.{shape, itemsOf}
-use Rattle.instructions.specs.Planned.{operationOf, planAt}
+use Rattle.instructions.specs.Planned.{planIn}
 use Rattle.instructions.specs.Scalars.{scalarOf}
 use Rattle.instructions.specs.Instruction.{byItems, planOf, countOf, wholeOf, actsOf}
 use Rattle.runs.specs.declared.answers.Answer.the-variants.{Paused, Exit, Lengths}
-use Rattle.runs.specs.Answers.{answerOf}
+use Rattle.runs.specs.declared.records.Record.{Record}
+use Rattle.runs.specs.Answers.{saidOf}
 use Rattle.runs.specs.Records.{flagsRight, placeRight, betweenTwo, halfDone, possible, half, between}
 use Rattle.runs.specs.Steps.{State, at, ended, next, wordAt, verdictAt, itemsAt, begun, fresh, heldOperands, step}
 use Rattle.runs.specs.Calls.{lengthsRight, Sound, call, run}
@@ -85,16 +86,16 @@ pub record Computed : Type 0 where
   pub added-short : added .rec .items + 1 < countOf (added .rec .word) (heldOperands added)
   pub added-over : added .rec .word ≡ wordAt added → ⊥
   pub added-passes : verdictAt added ≡ 0
-  -- the transmit takes a step, which changes the state
+  -- the transmit takes a step, which changes the record
   pub transmits : step transmitting ≡ next (begun transmitting)
-  pub transmitting-moves : transmitting ≡ begun transmitting → ⊥
+  pub transmitting-moves : transmitting .rec ≡ begun transmitting .rec → ⊥
   -- the exit takes none
   pub exits : step exiting ≡ ended Exit
 
 pub computed : Computed
-unfolding lengthsRight possible placeRight flagsRight betweenTwo halfDone step fresh begun answerOf fetchOf F.wordAt longIn there unfetchedAt found
+unfolding lengthsRight possible placeRight flagsRight betweenTwo halfDone step fresh begun saidOf fetchOf F.wordAt longIn there unfetchedAt found
     notZero named gathered verdictOf fieldsOf ofKind vectorOf sourceOf shortOf controlOf aligned inside shares inPlace misaligned outside overlapping
-    byItems planOf planAt operationOf itemsOf shape wholeOf itemAt storedAt madeAt flagsAt actsOf scalarOf
+    byItems planOf planIn meaningOf itemsOf shape wholeOf itemAt storedAt madeAt flagsAt actsOf scalarOf
 computed = record {
   adding-sound = record { lengths = refl; can = refl };
   added-sound = record { lengths = refl; can = refl };
@@ -107,6 +108,6 @@ computed = record {
   added-over = λ e. false≢true (sym (ap (λ (w : ℕ). eqb w (added .rec .word)) e));
   added-passes = refl;
   transmits = refl;
-  transmitting-moves = λ e. false≢true (sym (ap (λ (s : State). eqb (s .rec .p) (transmitting .rec .p)) e));
+  transmitting-moves = λ e. false≢true (sym (ap (λ (c : Record). eqb (c .p) (transmitting .rec .p)) e));
   exits = refl;
 }

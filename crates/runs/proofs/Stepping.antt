@@ -1,4 +1,4 @@
--- Begin, step as often as the budget says, and finish: the same as one call. Assumes nothing.
+-- Begin, step as often as the budget says, and finish: the same as one call.
 use mathlib.Core.Path.{_≡_, refl, sym, subst, _∙_, ap}
 use mathlib.Core.Bool.{Bool, true, false, _&&_, false≢true}
 use Prim.Native.Nat.{ℕ, zero, suc, _≤_}
@@ -9,7 +9,7 @@ use borrow.Author.Tests.{le-ltb}
 use Rattle.runs.specs.declared.control.Control.{Control}
 use Rattle.runs.specs.Answers.{paused}
 use Rattle.runs.specs.Records.{possible}
-use Rattle.runs.specs.Steps.{State, at, Stepped, ended, next, step}
+use Rattle.runs.specs.Steps.{State, Stepped, ended, next, step}
 use Rattle.runs.specs.Calls.{iterate, lengthsRight, Sound, run}
 use Rattle.runs.specs.Controls.{Seen, stateIn, beginning, turned, turnedAt, turn, turns, beginAt, finishAt}
 use Rattle.runs.specs.Inner.{resume, mayGo, Gone}
@@ -85,11 +85,10 @@ begins-all s budget =
     (cond-holds (λ (c : Control). c .left ≡ budget) (possible (s .bytes) (s .registers) (s .rec)) _ _ refl refl)
     refl
 
-begins-kept : (s : State) (n : ℕ) → paused (beginning (s .bytes) (s .registers) (s .rec) n .answer) ≡ true → Sound (at (s .bytes) (s .memory) (s .registers) (beginning (s .bytes) (s .registers) (s .rec) n .rec))
-begins-kept s n h = begins-sound (s .bytes) (s .memory) (s .registers) (s .rec) n (beginning (s .bytes) (s .registers) (s .rec) n) refl h
+begins-kept : (s : State) (n : ℕ) → paused (beginAt n s .control .answer) ≡ true → Sound (stateIn (beginAt n s))
+begins-kept s n h = begins-sound n s (beginning (s .bytes) (s .registers) (s .rec) n) refl h
 
 pub stepping : (n : ℕ) (s : State) → finishAt n (turns n (beginAt n s)) ≡ run n s
 stepping n s =
     let all = begins-all s n in
-    run-ends (s .bytes) (s .memory) (s .registers) _ _ _ (s .rec) n _ (turns n (beginAt n s) .control) refl
-    (turns-gone n (beginAt n s) (begins-kept s n) (λ _. omega arith))
+    run-ends n s (turns n (beginAt n s)) (turns-gone n (beginAt n s) (begins-kept s n) (λ _. omega arith))

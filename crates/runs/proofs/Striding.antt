@@ -1,4 +1,4 @@
--- Instructions of one step each: a run of them is as many steps of the definition. Assumes nothing.
+-- Instructions of one step each: a run of them is as many steps of the definition.
 use mathlib.Core.Path.{_≡_, refl, sym, _∙_, ap, ap₂, subst}
 use mathlib.Core.Bool.{Bool, true, false, not, _&&_, false≢true}
 use mathlib.Core.List.{List}
@@ -6,19 +6,20 @@ use Prim.Native.Nat.{ℕ, zero, suc, _-_, _<_, _≤_}
 use native.Mathlib.Omega.{arith}
 use lib.Dec.{eqb}
 use lib.ListN.{length}
+use Rattle.fields.specs.Bytes.{num}
 use borrow.Author.Tests.{eqb-true}
 use Rattle.instructions.specs.declared.operands.Operands.{Operands}
 use Rattle.instructions.specs.Operands.{gathered}
 use Rattle.instructions.specs.Verdict.{verdictOf}
 use Rattle.instructions.specs.Instruction.{byItems, oneStep, done, actsOf}
 use Rattle.runs.specs.declared.records.Record.{Record}
+use Rattle.runs.specs.declared.strides.Pace.{Pace}
 use Rattle.runs.specs.declared.performs.Performed.{Performed}
 use Rattle.runs.specs.declared.performs.Performed.the-variants.{Did}
 use Rattle.runs.specs.Records.{between}
-use Rattle.runs.specs.Steps.{State, Stepped, at, ended, next, bind, wordAt, burst, begun, fresh, step, strides}
-use Rattle.runs.specs.Calls.{lengthsRight}
-use Rattle.runs.specs.Inner.{Performs, oneStepAt, Strode}
-use Rattle.runs.proofs.Performing.{step-fresh, performs-acted}
+use Rattle.runs.specs.Steps.{State, Stepped, at, lentAt, ended, next, bind, wordAt, burst, begun, fresh, step, strides}
+use Rattle.runs.specs.Inner.{Starts, Performs, oneStepAt, Strode}
+use Rattle.runs.proofs.Performing.{step-fresh, Fetched, performs-acted}
 
 -- ONE OF THEM
 
@@ -48,7 +49,9 @@ pub stride-on : (v w : State) (all left word : ℕ) (o : Operands) (b : Bool) �
 stride-on v w all left word o b few some e unmarked read named is h bytes m r p f long acts =
     let passes = one-step-passes (w .rec .p) word o (w .bytes) b is h in
     let q : all - (left - 1) ≡ suc (all - left) = omega arith in
-    let did : Performs w 1 bytes m r (Did (between p f) 1) = performs-acted w word o _ 1 (record { unmarked = unmarked; read = read; named = named; verdict = refl }) (passes .0) (passes .1) (omega arith) bytes m r p f (between p f) long acts refl in
+    let judged : Fetched w word o (verdictOf (w .rec .p) word o (w .bytes)) = record { unmarked = unmarked; read = read; named = named; verdict = refl } in
+    let did : Performs w 1 (at bytes m r) (Did (between p f) 1) =
+    performs-acted w word o _ 1 judged (passes .0) (passes .1) (omega arith) bytes m r p f (between p f) long acts refl in
     ap (λ (k : ℕ). strides k v) q ∙ one-more (all - left) v w _ e (did .1 .1)
 
 pub no-stride : (n : ℕ) (v : State) → next v ≡ strides (n - n) v
@@ -72,34 +75,41 @@ strides-between zero bytes m r c unmarked some = absurd (omega arith)
 strides-between (suc zero) bytes m r c unmarked some = step-between bytes m r c unmarked
 strides-between (suc (suc k)) bytes m r c unmarked some = ap (λ (x : Stepped). bind x step) (strides-between (suc k) bytes m r c unmarked (omega arith))
 
+-- from where the code starts
+abbrev from : Record → ℕ → Pace
+from c most = record { p = c .p; flags = c .flags; left = most }
+
 -- some steps were done
-pub performs-strode : (bytes m : ℕ) (r : List ℕ) (c : Record) (most : ℕ) → c .mark ≡ 0
-    → (bytes' m' : ℕ) (r' : List ℕ) (p f left : ℕ) → Strode (at bytes m r (between (c .p) (c .flags))) most (at bytes' m' r' (between p f)) left → left < most
-    → (d : Record) → d ≡ between p f → Performs (at bytes m r c) most bytes' m' r' (Did d (most - left))
-performs-strode bytes m r c most unmarked bytes' m' r' p f left s some d is =
-    rw is (omega arith, (omega arith, strides-between (most - left) bytes m r c unmarked (omega arith) ∙ s .steps))
+pub performs-strode : (m r : List ℕ) (c : Record) (most : ℕ) → c .mark ≡ 0 → (m' r' : List ℕ) (q : Pace) → Strode m r (from c most) m' r' q → q .left < most
+    → (d : Record) → d ≡ between (q .p) (q .flags) → Performs (lentAt m r c) most (lentAt m' r') (Did d (most - q .left))
+performs-strode m r c most unmarked m' r' q s some d is =
+    rw is (omega arith, (omega arith, strides-between (most - q .left) (length m) (num m) r c unmarked (omega arith) ∙ s .steps))
 
 -- none was done
 abbrev stateOf : State → Stepped → State
 stateOf s (next t) = t
 stateOf s (ended a) = s
 
-module _ (bytes m : ℕ) (r : List ℕ) (c : Record) (bytes' m' : ℕ) (r' : List ℕ) (p f most left : ℕ)
-    (s : Strode (at bytes m r (between (c .p) (c .flags))) most (at bytes' m' r' (between p f)) left) (all : most ≤ left) where
-  same : at bytes m r (between (c .p) (c .flags)) ≡ at bytes' m' r' (between p f)
+module _ (m r : List ℕ) (c : Record) (most : ℕ) (m' r' : List ℕ) (q : Pace) (s : Strode m r (from c most) m' r' q) (all : most ≤ q .left) where
+  same : lentAt m r (between (c .p) (c .flags)) ≡ lentAt m' r' (between (q .p) (q .flags))
   same =
       let few = s .few in
-      let e : left ≡ most = omega arith in
-      let v = at bytes m r (between (c .p) (c .flags)) in
+      let e : q .left ≡ most = omega arith in
+      let v = lentAt m r (between (c .p) (c .flags)) in
       ap (stateOf v) (no-stride most v ∙ ap (λ (k : ℕ). strides (most - k) v) (sym e) ∙ s .steps)
 
   -- nothing has changed
-  pub same-lengths : lengthsRight bytes (length r) ≡ true → lengthsRight bytes' (length r') ≡ true
-  same-lengths right = sym (ap (λ (x : State). lengthsRight (x .bytes) (length (x .registers))) same) ∙ right
+  same-lent : lentAt m r c ≡ lentAt m' r' c
+  same-lent = ap (λ (t : State). at (t .bytes) (t .memory) (t .registers) c) same
 
-  pub performs-same : (b n : ℕ) (q : List ℕ) (x : Performed) → Performs (at bytes' m' r' c) most b n q x → Performs (at bytes m r c) most b n q x
-  performs-same b n q x h = subst (λ (t : State). Performs (at (t .bytes) (t .memory) (t .registers) c) most b n q x) (sym same) h
+  pub performs-same : (there : Record → State) (x : Performed) → Performs (lentAt m' r' c) most there x → Performs (lentAt m r c) most there x
+  performs-same there x h = subst (λ (t : State). Performs t most there x) (sym same-lent) h
+
+  pub starts-same : Starts (lentAt m r c) most → Starts (lentAt m' r' c) most
+  starts-same h = subst (λ (t : State). Starts t most) same-lent h
 
   -- and the instruction at P does not take one step
-  pub other-way : 0 < most → oneStepAt (at bytes' m' r' c) ≡ false
-  other-way some = ap (λ (q : ℕ). oneStepAt (at bytes' m' r' (between q f))) (ap (λ (x : State). x .rec .p) same) ∙ s .over (omega arith)
+  pub other-way : 0 < most → oneStepAt (lentAt m' r' c) ≡ false
+  other-way some =
+      let few = s .few in
+      ap (λ (p : ℕ). oneStepAt (lentAt m' r' (between p (q .flags)))) (ap (λ (x : State). x .rec .p) same) ∙ s .over (omega arith)

@@ -1,80 +1,65 @@
 -- What this layer promises of a call, beside the functions' own contracts. `run n s` is the call of budget n at the state s (specs/Calls), which the
--- contract of the code's `run` cites; `strides j s` is j steps, all of them taken. Assumes nothing.
+-- contract of the code's `run` cites; `strides j s` is j steps, all of them taken. Each section says which demand it serves:
+-- DEMAND 1, total: a call takes every memory, register set, record and budget, ends, and answers paused, exit or one numbered refusal: sections 1 to 4.
+-- DEMAND 2, right: every listed instruction that is not refused does what the machine's documents say: sections 5 to 7.
+-- DEMAND 3, resumable: a budget cut into parts gives the same end as one call: sections 8 to 12.
+-- Section 13 shows that 01's wrong runs meet none of it.
 use mathlib.Core.Path.{_≡_, refl, sym, _∙_, ap}
 use mathlib.Core.Bool.{true, false, false≢true}
 use mathlib.Core.List.{List, [], _∷_}
 use mathlib.Core.Logic.{_↔_, _⊎_}
-use Prim.Native.Nat.{ℕ, suc, _+_, _*_, _/_, _%_, _^_, _<_}
+use Prim.Native.Nat.{ℕ, suc, _+_, _*_, _/_, _%_, _^_, _<_, _≤_}
 use native.Mathlib.Omega.{arith}
-use lib.ListN.{length}
-use Rattle.fields.specs.Bytes.{num, Bytes}
+use lib.Bits.{bitOr}
+use lib.ListN.{length, getD}
+use Rattle.fields.specs.Bytes.{Bytes}
 use Rattle.fields.proofs.Lists.{num-inj}
+use Rattle.instructions.specs.Fetch.{lengthOf}
+use Rattle.instructions.specs.Verdict.{case, checks}
 use Rattle.instructions.specs.Items.{worked}
-use Rattle.instructions.specs.Instruction.{countOf}
+use Rattle.instructions.specs.Instruction.{byItems, countOf}
+use Rattle.instructions.proofs.VerdictOrder.{Earliest, Passes, verdict-is, verdict-none}
 use Rattle.runs.specs.declared.answers.Answer.{Answer}
 use Rattle.runs.specs.declared.answers.Answer.the-variants.{Paused, Exit, Lengths}
 use Rattle.runs.specs.declared.calls.Outcome.{Outcome}
 use Rattle.runs.specs.declared.control.Control.{Control}
 use Rattle.runs.specs.declared.records.Record.{Record}
 use Rattle.runs.specs.Answers.{numberOf, paused, OfChecks}
-use Rattle.runs.specs.Records.{possible}
-use Rattle.runs.specs.Steps.{State, ended, next, heldAt, itemsAt, heldOperands, wordAt, begun, step, strides, at}
-use Rattle.runs.specs.Calls.{lengthsRight, Sound, Refused, Call, call, called, afterwards, inParts, total, OneOrMore, run}
+use Rattle.runs.specs.Records.{possible, half, between}
+use Rattle.runs.specs.Steps.{State, at, lentAt, ended, next, wordAt, operandsAt, verdictAt, itemsAt, acted, begun, heldOperands, heldAt, step, strides}
+use Rattle.runs.specs.Calls.{lengthsRight, Sound, Refused, Call, call, leaves, with00, afterwards, inParts, total, OneOrMore, run}
 use Rattle.runs.specs.Hosts.{Lent, lent, handed}
-use Rattle.runs.specs.Wholes.{firstItems, wholes, Partial, cutAt, Reached, whole, part}
-use Rattle.runs.specs.Controls.{Seen, seen, turns, beginAt, finishAt}
+use Rattle.runs.specs.Wholes.{firstItems, allItems, wholes, stepsOf, Partial, cutAt, Reached, whole, part}
+use Rattle.runs.specs.Controls.{Seen, seenAt, turns, beginAt, finishAt}
+use Rattle.runs.proofs.Choices.{ne-pos}
 use Rattle.runs.proofs.Numbered.{step-answers, later}
 use Rattle.runs.proofs.Soundness.{strides-sound, possible-marked}
-use Rattle.runs.proofs.Bursting.{holds-of}
+use Rattle.runs.proofs.Bursting.{holds-of, burst-half, burst-done}
+use Rattle.runs.proofs.Performing.{step-acted}
 use Rattle.runs.proofs.Iterating.{no-stride, one-stride}
 use Rattle.runs.proofs.Ending.{lengths-wrong, not-possible, all-used, stopped, run-of, ran, run-split}
-use Rattle.runs.proofs.Answering.{stays, taken, says-0, all-steps, says-2, says-3, nothing-changed, says-checked, checked-says}
+use Rattle.runs.proofs.Answering.{stays, taken, says-0, says-2, says-3, nothing-changed, says-checked, checked-says}
 use Rattle.runs.proofs.Lending.{packed-number, packed-steps, steps-most}
-use Rattle.runs.proofs.Starts.{blank, nothing-lent, blank-sound, blank-pauses, nothing-refused, adding, added, transmitting, exiting, computed}
+use Rattle.runs.proofs.Starts.{blank, nothing-lent, blank-pauses, nothing-refused, adding, added, transmitting, exiting, computed}
 use Rattle.runs.proofs.Stepping.{stepping}
-use Rattle.runs.proofs.Wholeness.{steps-reach, steps-cut, steps-held}
+use Rattle.runs.proofs.Wholeness.{steps-reach, steps-cut, steps-whole, steps-held}
+use Rattle.runs.proofs.Keeping.{flags-run, run-00, same-00-run}
 
--- ---- 1. CUTTING
+-- ---- 1. STEPS (demand 1)
 
--- A budget may be cut into any parts of one or more: calls one after another, each on the state that the one before left, leave the same registers, memory, record
--- and flags as one call, with the same last answer and as many steps in all. From every start, an impossible one too; a first part of 0 does no harm.
-pub cutting : (n : ℕ) (ks : List ℕ) (s : State) → OneOrMore ks → inParts n ks s ≡ run (n + total ks) s
-cutting n [] s parts =
-    let e : n + 0 ≡ n = omega arith in
-    rw e
-cutting n (k ∷ ks) s parts =
-    let some : 0 < k + total ks = omega (arith, parts .0) in
-    ap (afterwards (run n s)) (cutting k ks (run n s .state) (parts .1)) ∙ sym (run-split n (k + total ks) s some)
-
--- ---- 2. ENDED
-
--- After an exit or a refusal a larger budget gives the same: answer, steps and state.
-pub ended-stays : (n k : ℕ) (s : State) → paused (run n s .answer) ≡ false → run (n + k) s ≡ run n s
-ended-stays n k s = stays n k s (run n s) (ran n s)
-
--- ---- 3. PAUSED
-
--- A call says 0 exactly when neither 2 nor 3 applies and its steps are the whole budget. Its steps are those finished in it: so many lead from the state at its start
--- to the one that it leaves, from every start. (`anywhere`, below, counts them by items and instructions.)
+-- The reported steps are those finished in this call: so many lead from the state at its start to the one that it leaves, from every start. With 0 they are the
+-- whole budget. (`anywhere`, below, counts them by items and instructions.)
 pub record Pauses (n : ℕ) (s : State) : Type 0 where
-  pub exactly : (numberOf (run n s .answer) ≡ 0) ↔ (Sound s × (run n s .steps ≡ n))
   pub finished : strides (run n s .steps) s ≡ next (run n s .state)
+  pub whole-budget : numberOf (run n s .answer) ≡ 0 → run n s .steps ≡ n
 
 pub pauses : (n : ℕ) (s : State) → Pauses n s
-pauses n s = record {
-  exactly = (
-    λ h.
-        let z = says-0 n s (run n s) (ran n s) h in
-        (z .0, z .1 .0),
-    λ h. all-steps n s (run n s) (ran n s) (h .0) (h .1),
-  );
-  finished = taken n s (run n s) (ran n s);
-}
+pauses n s = record { finished = taken n s (run n s) (ran n s); whole-budget = λ h. says-0 n s (run n s) (ran n s) h .1 .0 }
 
--- ---- 4. REFUSED CHANGES NOTHING
+-- ---- 2. REFUSED CHANGES NOTHING (demand 1)
 
--- With 2 and 3 nothing at all has changed, and no step was taken. With 1 and 4 to 11 the state is the one that the last finished step left: between two instructions, with
--- P at the word that was refused, whose verdict is the answer's number; and fewer steps were taken than the budget allows.
+-- With 2 and 3 nothing at all has changed, and no step was taken. With 1 and 4 to 11 the state is the one that the last finished step left: between two
+-- instructions, with P at the word that was refused, whose verdict is the answer's number; and fewer steps were taken than the budget allows.
 pub record ChangesNothing (n : ℕ) (s : State) : Type 0 where
   pub at-once : (numberOf (run n s .answer) ≡ 2) ⊎ (numberOf (run n s .answer) ≡ 3) → (run n s .state ≡ s) × (run n s .steps ≡ 0)
   pub at-its-word : OfChecks (numberOf (run n s .answer)) → Refused n s (numberOf (run n s .answer)) (run n s .steps) (run n s .state)
@@ -85,14 +70,17 @@ refused-changes-nothing n s = record {
   at-its-word = λ h. says-checked n s (run n s) (ran n s) (later _ h);
 }
 
--- ---- 5. EXACTLY WHEN
+-- ---- 3. EXACTLY WHEN (demand 1, and which instructions demand 2 speaks of)
 
--- 01's table, each number both ways. 0: neither 2 nor 3, and all the budget is used in steps. 2: "memory length wrong, or not 256 registers". 3: "record impossible", where 2
--- does not apply. 1 and 4 to 11: neither 2 nor 3, and fewer steps than the budget lead to a state between two instructions where this is the verdict on the word at P.
+-- 01's table, each number both ways. 0: neither 2 nor 3, and all the budget is used in steps. 2: "memory length wrong, or not 256 registers". 3: "record
+-- impossible", where 2 does not apply. 1 and 4 to 11: neither 2 nor 3, and fewer steps than the budget lead to a state between two instructions where this is
+-- the verdict on the word at P.
 pub record ExactlyWhen (n : ℕ) (s : State) : Type 0 where
   pub zero : (numberOf (run n s .answer) ≡ 0) ↔ (Sound s × ((t : State) × (strides n s ≡ next t)))
   pub two : (numberOf (run n s .answer) ≡ 2) ↔ (lengthsRight (s .bytes) (length (s .registers)) ≡ false)
-  pub three : (numberOf (run n s .answer) ≡ 3) ↔ ((lengthsRight (s .bytes) (length (s .registers)) ≡ true) × (possible (s .bytes) (s .registers) (s .rec) ≡ false))
+  pub three :
+      (numberOf (run n s .answer) ≡ 3)
+      ↔ ((lengthsRight (s .bytes) (length (s .registers)) ≡ true) × (possible (s .bytes) (s .registers) (s .rec) ≡ false))
   pub checks : (v : ℕ) → OfChecks v → (numberOf (run n s .answer) ≡ v) ↔ ((j : ℕ) × ((t : State) × Refused n s v j t))
 
 pub exactly-when : (n : ℕ) (s : State) → ExactlyWhen n s
@@ -108,74 +96,53 @@ exactly-when n s = record {
   checks =
       λ v which. (
         λ e. (run n s .steps, (run n s .state, rw e at (says-checked n s (run n s) (ran n s) (rw (sym e) at (later v which))))),
-        λ h. checked-says n s v (h .0) (h .1 .0) (later v which) (h .1 .1),
+        λ h. checked-says n s v (h .0) (h .1 .0) which (h .1 .1),
       );
 }
   where
     number : Call → ℕ
     number c = numberOf (c .answer)
 
--- ---- 6. WHOLE INSTRUCTIONS
+-- And this is the verdict exactly when the check of that number refuses the word at P and none before it does, in the order of `checks` (instructions,
+-- specs/Verdict), where each stands with 01's "When"; no check refuses it exactly when the verdict is 0.
+pub record First (t : State) : Type 0 where
+  pub refuses : (v : ℕ) → OfChecks v → (verdictAt t ≡ v) ↔ Earliest v (case (t .rec .p) (wordAt t) (operandsAt t) (t .bytes)) checks
+  pub none-refuses : (verdictAt t ≡ 0) ↔ Passes (case (t .rec .p) (wordAt t) (operandsAt t) (t .bytes)) checks
 
--- From a start between two instructions, wherever nothing is half done, the state is the one that some number of whole instructions lead to.
-pub whole-instructions : (n : ℕ) (s : State) → Sound s → s .rec .mark ≡ 0 → run n s .state .rec .mark ≡ 0 → (i : ℕ) × (wholes i s ≡ next (run n s .state))
-whole-instructions n s ok m h = go (run n s .state) (steps-reach (run n s .steps) s (run n s .state) ok m (pauses n s .finished)) h
-  where
-    go : (t : State) → Reached s (run n s .steps) t → t .rec .mark ≡ 0 → (i : ℕ) × (wholes i s ≡ next t)
-    go t (whole i e _ _) h = (i, e)
-    go t (part i k u e _ p is) h = absurd (omega (arith, rw is at h))
+pub first-refuses : (t : State) → First t
+first-refuses t = record {
+  refuses = λ v which. verdict-is (t .rec .p) (wordAt t) (operandsAt t) (t .bytes) v (ne-pos v (later v which .not-0));
+  none-refuses = verdict-none (t .rec .p) (wordAt t) (operandsAt t) (t .bytes);
+}
 
--- ---- 7. HALF DONE
+-- ---- 4. ONE OUTCOME (demand 1)
 
--- k steps at a vector, bit or move instruction that passes and has more than k items: the call is paused; memory and flags show exactly the first k items, and the
--- record holds P, the word as it was fetched, and k (`cutAt` says so).
-pub half-done : (s : State) (k : ℕ) → Sound s → Partial s k → run k s ≡ call (cutAt k s) Paused k
-half-done s k ok h = run-of k s _ (all-used (cutAt k s) ok (steps-cut s k ok h) refl)
-
--- Wherever a call stops that began between two instructions, the state is the one that whole instructions lead to, or they and the first k items of the next one,
--- and the reported steps are the instructions' steps and those items. The record then holds that word as it was fetched, whatever memory holds at P.
-pub anywhere : (n : ℕ) (s : State) → Sound s → s .rec .mark ≡ 0 → Reached s (run n s .steps) (run n s .state)
-anywhere n s ok m = steps-reach (run n s .steps) s (run n s .state) ok m (pauses n s .finished)
-
--- A call that goes on with what is half done works the next items of the word that the record holds, whatever memory holds at P.
-pub goes-on : (s : State) (j : ℕ) → Sound s → (s .rec .mark ≡ 0 → ⊥) → 0 < j → s .rec .items + j < countOf (s .rec .word) (heldOperands s)
-    → run j s ≡ call (heldAt j s) Paused j
-goes-on s j ok marked some short = run-of j s _ (all-used (heldAt j s) ok (steps-held s j ok marked some short) refl)
-
--- ---- 8. POSSIBLE AGAIN
-
--- A record that a call hands back is possible with the registers and the memory that it hands back, wherever neither 2 nor 3 was said.
-pub possible-again : (n : ℕ) (s : State) → Sound s → Sound (run n s .state)
-possible-again n s ok = strides-sound (run n s .steps) s (run n s .state) ok (pauses n s .finished)
-
--- ---- 9. ONE OUTCOME
-
--- What the contract of `run` says of the memory, registers and outcome that it leaves is met by one memory, one list of registers and one outcome. (`Bytes`: each
--- byte is below 256, as in every slice of them.)
-pub one-outcome : (x : Call) (m m' r r' : List ℕ) (o o' : Outcome) → Bytes m → Bytes m' → called (length m) (num m) r o ≡ x → called (length m') (num m') r' o' ≡ x
+-- What the contract of `run` says of the memory, registers and outcome that it leaves is met by one memory, one list of registers and one outcome. (`Bytes`:
+-- each byte is below 256, as in every slice of them.)
+pub one-outcome : (x : Call) (m m' r r' : List ℕ) (o o' : Outcome) → Bytes m → Bytes m' → leaves (lentAt m r) o ≡ x → leaves (lentAt m' r') o' ≡ x
     → (m ≡ m') × ((r ≡ r') × (o ≡ o'))
 one-outcome x m m' r r' o o' b b' p q =
-    let e : called (length m) (num m) r o ≡ called (length m') (num m') r' o' = p ∙ sym q in (
+    let e : leaves (lentAt m r) o ≡ leaves (lentAt m' r') o' = p ∙ sym q in (
       num-inj m m' b b' (ap (λ (c : Call). c .state .bytes) e) (ap (λ (c : Call). c .state .memory) e),
       (ap (λ (c : Call). c .state .registers) e, ap (λ (c : Call). record { answer = c .answer; steps = c .steps; rec = c .state .rec }) e),
     )
 
 -- The same of `Control::step`.
-pub one-step : (x : Seen) (m m' r r' : List ℕ) (d d' : Control) → Bytes m → Bytes m' → seen (length m) (num m) r d ≡ x → seen (length m') (num m') r' d' ≡ x
+pub one-step : (x : Seen) (m m' r r' : List ℕ) (d d' : Control) → Bytes m → Bytes m' → seenAt m r d ≡ x → seenAt m' r' d' ≡ x
     → (m ≡ m') × ((r ≡ r') × (d ≡ d'))
 one-step x m m' r r' d d' b b' p q =
-    let e : seen (length m) (num m) r d ≡ seen (length m') (num m') r' d' = p ∙ sym q in (
+    let e : seenAt m r d ≡ seenAt m' r' d' = p ∙ sym q in (
       num-inj m m' b b' (ap (λ (v : Seen). v .bytes) e) (ap (λ (v : Seen). v .memory) e),
       (ap (λ (v : Seen). v .registers) e, ap (λ (v : Seen). v .control) e),
     )
 
--- The same of the outer call, `rawgunshet_run`: one memory, one list of registers, one record and one result. Every other public function's contract is an equation
--- with its result.
+-- The same of the outer call, `rawgunshet_run`: one memory, one list of registers, one record and one result. Every other public function's contract is an
+-- equation with its result.
 pub one-lent : (x : Lent) (m m' r r' : List ℕ) (c c' : Record) (v v' : ℕ) → Bytes m → Bytes m'
-    → lent (at (length m) (num m) r c) v ≡ x → lent (at (length m') (num m') r' c') v' ≡ x
+    → lent (lentAt m r c) v ≡ x → lent (lentAt m' r' c') v' ≡ x
     → (m ≡ m') × ((r ≡ r') × ((c ≡ c') × (v ≡ v')))
 one-lent x m m' r r' c c' v v' b b' p q =
-    let e : lent (at (length m) (num m) r c) v ≡ lent (at (length m') (num m') r' c') v' = p ∙ sym q in (
+    let e : lent (lentAt m r c) v ≡ lent (lentAt m' r' c') v' = p ∙ sym q in (
       num-inj m m' b b' (ap (λ (l : Lent). l .state .bytes) e) (ap (λ (l : Lent). l .state .memory) e),
       (ap (λ (l : Lent). l .state .registers) e, (ap (λ (l : Lent). l .state .rec) e, ap (λ (l : Lent). l .result) e)),
     )
@@ -187,20 +154,123 @@ lent-says n s fits =
     let few : run n s .steps < 2 ^ 32 = omega (arith, fits, steps-most n s (run n s) (ran n s)) in
     (packed-number (run n s .answer) (run n s .steps) few, packed-steps (run n s .answer) (run n s .steps) few)
 
+-- ---- 5. ONE INSTRUCTION (demand 2)
+
+-- At a word that no check refuses and that does not go by items, one step does the instruction: a call of budget 1 leaves what `acted` says of the word, and
+-- is paused.
+pub does-one : (s : State) → Sound s → s .rec .mark ≡ 0 → verdictAt s ≡ 0 → byItems (wordAt s) ≡ false → run 1 s ≡ call (acted s) Paused 1
+does-one s ok m passes other = run-of 1 s _ (all-used (acted s) ok (one-stride s (acted s) (step-acted s m passes other)) refl)
+
+-- At a vector, bit or move instruction that no check refuses, as many steps as it has items (one, where it has none) do the instruction as a whole, from its
+-- sources as they stood when it began: a call of that budget leaves what `allItems` says, with P past the word, and is paused.
+pub does-all : (s : State) → Sound s → s .rec .mark ≡ 0 → verdictAt s ≡ 0 → byItems (wordAt s) ≡ true → run (stepsOf s) s ≡ call (allItems s) Paused (stepsOf s)
+does-all s ok m passes is = run-of (stepsOf s) s _ (all-used (allItems s) ok (steps-whole s ok m passes is) refl)
+
+-- BY CODE: what `acted` and `allItems` come to, a line a code in terms of R, S, T or A, B, C; and words and their parts, there and back.
+
+-- ---- 6. WHOLE INSTRUCTIONS (demand 2)
+
+-- From a start between two instructions, wherever nothing is half done, the state is the one that some number of whole instructions lead to.
+pub whole-instructions : (n : ℕ) (s : State) → Sound s → s .rec .mark ≡ 0 → run n s .state .rec .mark ≡ 0 → (i : ℕ) × (wholes i s ≡ next (run n s .state))
+whole-instructions n s ok m h = go (run n s .state) (steps-reach (run n s .steps) s (run n s .state) ok m (pauses n s .finished)) h
+  where
+    go : (t : State) → Reached s (run n s .steps) t → t .rec .mark ≡ 0 → (i : ℕ) × (wholes i s ≡ next t)
+    go t (whole i e _ _) h = (i, e)
+    go t (part i k u e _ p is) h = absurd (omega (arith, rw is at h))
+
+-- ---- 7. FLAGS AND REGISTER 00 (demand 2)
+
+-- 01: flags are "set and never cleared": from every start, a call leaves every flag that it found.
+pub flags-kept : (n : ℕ) (s : State) → bitOr (s .rec .flags) (run n s .state .rec .flags) ≡ run n s .state .rec .flags
+flags-kept = flags-run
+
+-- Register 00 is never read: from every start, with another word in it, a call differs in nothing but that word.
+pub never-read : (n v : ℕ) (s : State) → run n (with00 v s) ≡ call (with00 v (run n s .state)) (run n s .answer) (run n s .steps)
+never-read n v s = run-00 v n s
+
+-- And it is never written.
+pub never-written : (n : ℕ) (s : State) → getD (run n s .state .registers) 0 0 ≡ getD (s .registers) 0 0
+never-written = same-00-run
+
+-- ---- 8. CUTTING (demand 3)
+
+-- A budget may be cut into any parts of one or more: calls one after another, each on the state that the one before left, leave the same registers, memory,
+-- record and flags as one call, with the same last answer and as many steps in all. From every start, an impossible one too; a first part of 0 does no harm.
+pub cutting : (n : ℕ) (ks : List ℕ) (s : State) → OneOrMore ks → inParts n ks s ≡ run (n + total ks) s
+cutting n [] s parts =
+    let e : n + 0 ≡ n = omega arith in
+    rw e
+cutting n (k ∷ ks) s parts =
+    let some : 0 < k + total ks = omega (arith, parts .0) in
+    ap (afterwards (run n s)) (cutting k ks (run n s .state) (parts .1)) ∙ sym (run-split n (k + total ks) s some)
+
+-- ---- 9. ENDED (demand 3)
+
+-- After an exit or a refusal a larger budget gives the same: answer, steps and state.
+pub ended-stays : (n k : ℕ) (s : State) → paused (run n s .answer) ≡ false → run (n + k) s ≡ run n s
+ended-stays n k s = stays n k s (run n s) (ran n s)
+
+-- ---- 10. HALF DONE (demand 3)
+
+-- k steps at a vector, bit or move instruction that passes and has more than k items: the call is paused; memory and flags show exactly the first k items, and
+-- the record holds P, the word as it was fetched, and k (`cutAt` says so).
+pub half-done : (s : State) (k : ℕ) → Sound s → Partial s k → run k s ≡ call (cutAt k s) Paused k
+half-done s k ok h = run-of k s _ (all-used (cutAt k s) ok (steps-cut s k ok h) refl)
+
+-- Wherever a call stops that began between two instructions, the state is the one that whole instructions lead to, or they and the first k items of the next
+-- one, and the reported steps are the instructions' steps and those items. The record then holds that word as it was fetched, whatever memory holds at P.
+pub anywhere : (n : ℕ) (s : State) → Sound s → s .rec .mark ≡ 0 → Reached s (run n s .steps) (run n s .state)
+anywhere n s ok m = steps-reach (run n s .steps) s (run n s .state) ok m (pauses n s .finished)
+
+-- A call that goes on with what is half done, for j of the items that are left, works those of the word that the record holds, whatever memory holds at P, and
+-- is paused. Short of the last item the record holds the same P and word, and j items more; after the last one nothing is half done, and P is past the word.
+pub record GoesOn (s : State) (j : ℕ) : Type 0 where
+  pub works : run j s ≡ call (heldAt j s) Paused j
+  pub short :
+      s .rec .items + j < countOf (s .rec .word) (heldOperands s)
+      → heldAt j s .rec ≡ half (s .rec .p) (s .rec .word) (s .rec .items + j) (heldAt j s .rec .flags)
+  pub past-the-last :
+      s .rec .items + j ≡ countOf (s .rec .word) (heldOperands s)
+      → heldAt j s .rec ≡ between (s .rec .p + lengthOf (s .rec .word)) (heldAt j s .rec .flags)
+
+pub goes-on : (s : State) (j : ℕ) → Sound s → (s .rec .mark ≡ 0 → ⊥) → 0 < j → s .rec .items + j ≤ countOf (s .rec .word) (heldOperands s) → GoesOn s j
+goes-on s j ok marked some few = record {
+  works = run-of j s _ (all-used (heldAt j s) ok (steps-held s j ok marked some few) refl);
+  short =
+      λ h.
+      let e = burst-half (s .rec .word) (heldOperands s) (s .rec .items) j s h in
+      ap (λ (t : State). t .rec) e ∙ ap (λ (f : ℕ). half (s .rec .p) (s .rec .word) (s .rec .items + j) f) (sym (ap (λ (t : State). t .rec .flags) e));
+  past-the-last =
+      λ h.
+      let e = burst-done (s .rec .word) (heldOperands s) (s .rec .items) j s (omega (arith, h)) in
+      ap (λ (t : State). t .rec) e ∙ ap (λ (f : ℕ). between (s .rec .p + lengthOf (s .rec .word)) f) (sym (ap (λ (t : State). t .rec .flags) e));
+}
+
+-- ---- 11. POSSIBLE AGAIN (demand 3)
+
+-- A record that a call hands back is possible with the registers and the memory that it hands back, wherever neither 2 nor 3 was said.
+pub possible-again : (n : ℕ) (s : State) → Sound s → Sound (run n s .state)
+possible-again n s ok = strides-sound (run n s .steps) s (run n s .state) ok (pauses n s .finished)
+
+-- ---- 12. STEP BY STEP (demand 3)
+
 -- Begin, step as often as the budget says, and finish: the same as the one call.
 pub step-by-step : (n : ℕ) (s : State) → finishAt n (turns n (beginAt n s)) ≡ run n s
 step-by-step = stepping
 
--- ---- 10. NOT THESE
+-- ---- 13. NOT THESE
 
--- A run that refuses everything differs wherever a budget is used up in steps: `blank` with budget 0 is such a start.
-pub not-refusing : (wrong : ℕ → State → Call) → ((n : ℕ) (s : State) → paused (wrong n s .answer) ≡ false)
-    → (n : ℕ) (s t : State) → Sound s → strides n s ≡ next t → wrong n s ≡ run n s → ⊥
-not-refusing wrong refuses n s t ok e same =
-    false≢true (sym (refuses n s) ∙ ap (λ (c : Call). paused (c .answer)) (same ∙ run-of n s _ (all-used t ok e refl)))
+-- A run that refuses everything, but where the budget is 0, differs wherever a budget is used up in steps. At a transmit with budget 1 it differs.
+pub not-refusing : (wrong : ℕ → State → Call) → ((n : ℕ) (s : State) → 0 < n → paused (wrong n s .answer) ≡ false)
+    → (n : ℕ) (s t : State) → 0 < n → Sound s → strides n s ≡ next t → wrong n s ≡ run n s → ⊥
+not-refusing wrong refuses n s t some ok e same =
+    false≢true (sym (refuses n s some) ∙ ap (λ (c : Call). paused (c .answer)) (same ∙ run-of n s _ (all-used t ok e refl)))
 
-pub not-refusing-blank : (wrong : ℕ → State → Call) → ((n : ℕ) (s : State) → paused (wrong n s .answer) ≡ false) → wrong 0 blank ≡ run 0 blank → ⊥
-not-refusing-blank wrong refuses = not-refusing wrong refuses 0 blank blank blank-sound (no-stride blank)
+pub not-refusing-here : (wrong : ℕ → State → Call) → ((n : ℕ) (s : State) → 0 < n → paused (wrong n s .answer) ≡ false)
+    → wrong 1 transmitting ≡ run 1 transmitting → ⊥
+not-refusing-here wrong refuses =
+    not-refusing wrong refuses 1 transmitting (begun transmitting) (omega arith) (computed .transmitting-sound)
+    (one-stride transmitting (begun transmitting) (computed .transmits))
 
 -- A run that gives the same answer every time differs at one of two starts.
 pub not-one-answer : (wrong : ℕ → State → Call) (a : Answer) → ((n : ℕ) (s : State) → wrong n s .answer ≡ a)
@@ -217,11 +287,14 @@ not-idle s t ok e differs same = differs (ap (λ (c : Call). c .state) (same ∙
 
 pub not-idle-ended : (n : ℕ) (s : State) (a : Answer) → Sound s → step s ≡ ended a → call s Paused (suc n) ≡ run (suc n) s → ⊥
 not-idle-ended n s a ok e same =
-    false≢true (sym (step-answers s a e) ∙ sym (ap (λ (c : Call). paused (c .answer)) (same ∙ run-of (suc n) s _ (stopped 0 s a ok (omega arith) (no-stride s) e refl))))
+    let f : run (suc n) s ≡ call s a 0 = run-of (suc n) s _ (stopped 0 s a ok (omega arith) (no-stride s) e refl) in
+    false≢true (sym (step-answers s a e) ∙ sym (ap (λ (c : Call). paused (c .answer)) (same ∙ f)))
 
 -- At a transmit with budget 1 it differs, and at an exit with any budget but 0.
 pub not-idle-here : call transmitting Paused 1 ≡ run 1 transmitting → ⊥
-not-idle-here = not-idle transmitting (begun transmitting) (computed .transmitting-sound) (computed .transmits) (computed .transmitting-moves)
+not-idle-here =
+    not-idle transmitting (begun transmitting) (computed .transmitting-sound) (computed .transmits)
+    (λ e. computed .transmitting-moves (ap (λ (s : State). s .rec) e))
 
 pub not-idle-exit : (n : ℕ) → call exiting Paused (suc n) ≡ run (suc n) exiting → ⊥
 not-idle-exit n = not-idle-ended n exiting Exit (computed .exiting-sound) (computed .exits)
@@ -254,13 +327,17 @@ not-inventing-ended wrong says n s a ok e same =
 pub not-inventing-exit : (wrong : ℕ → State → Call) → ((n : ℕ) (s : State) → wrong n s .steps ≡ n) → (n : ℕ) → wrong (suc n) exiting ≡ run (suc n) exiting → ⊥
 not-inventing-exit wrong says n = not-inventing-ended wrong says n exiting Exit (computed .exiting-sound) (computed .exits)
 
--- An outer call that does not store the next record differs wherever a step changes the record.
+-- An outer call that does not store the next record differs wherever a step changes the record. At a transmit with budget 1 it differs.
 pub not-forgetting : (s t : State) (m : ℕ) (r : List ℕ) (v : ℕ) → Sound s → step s ≡ next t → (s .rec ≡ t .rec → ⊥)
     → lent (at (s .bytes) m r (s .rec)) v ≡ handed (run 1 s) → ⊥
 not-forgetting s t m r v ok e differs same =
     differs (ap (λ (l : Lent). l .state .rec) (same ∙ ap handed (run-of 1 s _ (all-used t ok (one-stride s t e) refl))))
 
--- An outer call whose result is the answer's number alone, without the steps, differs wherever a step is taken.
+pub not-forgetting-here : (m : ℕ) (r : List ℕ) (v : ℕ) → lent (at (transmitting .bytes) m r (transmitting .rec)) v ≡ handed (run 1 transmitting) → ⊥
+not-forgetting-here m r v =
+    not-forgetting transmitting (begun transmitting) m r v (computed .transmitting-sound) (computed .transmits) (computed .transmitting-moves)
+
+-- An outer call whose result is the answer's number alone, without the steps, differs wherever a step is taken. At a transmit with budget 1 it differs.
 pub not-number-alone : (s t u : State) → Sound s → step s ≡ next t → lent u (numberOf (run 1 s .answer) * 2 ^ 32) ≡ handed (run 1 s) → ⊥
 not-number-alone s t u ok e same =
     let f : run 1 s ≡ call t Paused 1 = run-of 1 s _ (all-used t ok (one-stride s t e) refl) in
@@ -269,11 +346,15 @@ not-number-alone s t u ok e same =
     let h : _≡_ {A = ℕ} 0 1 = sym (ap (λ (c : Call). numberOf (c .answer) * 2 ^ 32 % 2 ^ 32) f) ∙ g in
     omega arith
 
+pub not-number-alone-here : (u : State) → lent u (numberOf (run 1 transmitting .answer) * 2 ^ 32) ≡ handed (run 1 transmitting) → ⊥
+not-number-alone-here u = not-number-alone transmitting (begun transmitting) u (computed .transmitting-sound) (computed .transmits)
+
 -- A run that fetches again after a pause differs wherever memory at P no longer holds the word.
 pub not-fetching-again : (wrong : ℕ → State → Call) (s : State) → Sound s → (s .rec .mark ≡ 0 → ⊥) → s .rec .items + 1 < countOf (s .rec .word) (heldOperands s)
     → wrong 1 s .state .rec .word ≡ wordAt s → (s .rec .word ≡ wordAt s → ⊥) → wrong 1 s ≡ run 1 s → ⊥
 not-fetching-again wrong s ok marked short fetches differs same =
-    differs (sym (ap (λ (c : Call). c .state .rec .word) (same ∙ goes-on s 1 ok marked (omega arith) short)) ∙ fetches)
+    let g = goes-on s 1 ok marked (omega arith) (omega arith) in
+    differs (sym (ap (λ (c : Call). c .state .rec .word) (same ∙ g .works) ∙ ap (λ (c : Record). c .word) (g .short short)) ∙ fetches)
 
 -- One step of the add leads to a state where memory at P no longer holds the word, and where a run that fetches again differs.
 pub paused-over : run 1 adding ≡ call added Paused 1
@@ -287,7 +368,8 @@ not-fetching-again-here wrong fetches =
 pub not-afresh : (wrong : ℕ → State → Call) (s : State) → Sound s → (s .rec .mark ≡ 0 → ⊥) → s .rec .items + 1 < countOf (s .rec .word) (heldOperands s)
     → wrong 1 s .state .rec .items ≡ 1 → wrong 1 s ≡ run 1 s → ⊥
 not-afresh wrong s ok marked short one same =
-    let e : s .rec .items + 1 ≡ 1 = sym (ap (λ (c : Call). c .state .rec .items) (same ∙ goes-on s 1 ok marked (omega arith) short)) ∙ one in
+    let g = goes-on s 1 ok marked (omega arith) (omega arith) in
+    let e : s .rec .items + 1 ≡ 1 = sym (ap (λ (c : Call). c .state .rec .items) (same ∙ g .works) ∙ ap (λ (c : Record). c .items) (g .short short)) ∙ one in
     let some = holds-of _ _ _ (possible-marked (s .bytes) (s .registers) (s .rec) (ok .can) marked) .some in
     omega arith
 

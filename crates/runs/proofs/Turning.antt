@@ -1,4 +1,4 @@
--- The control state: what a method's proof has to show, from what `perform` ensures. Assumes nothing.
+-- The control state: what a method's proof has to show, from what `perform` ensures.
 use mathlib.Core.Path.{_≡_, refl, sym, _∙_, ap}
 use mathlib.Core.Bool.{Bool, true, false, cond, _&&_, false≢true}
 use mathlib.Core.List.{List}
@@ -16,8 +16,8 @@ use Rattle.runs.specs.declared.performs.Performed.the-variants.{Did, End
 use Rattle.runs.specs.Answers.{paused}
 use Rattle.runs.specs.Records.{possible}
 use Rattle.runs.specs.Steps.{State, at, next, step, strides}
-use Rattle.runs.specs.Calls.{iterate, lengthsRight, Sound, call, closed, called, run}
-use Rattle.runs.specs.Controls.{control, Seen, seen, stateIn, beginning, turned, turnedAt, turn, finishing}
+use Rattle.runs.specs.Calls.{Stopped, iterate, lengthsRight, Sound, call, closed, run}
+use Rattle.runs.specs.Controls.{control, Seen, seen, stateIn, beginning, turned, turnedAt, turn, finishing, beginAt, finishAt}
 use Rattle.runs.specs.Inner.{Performs, Within, counted, mayGo, resume, Advanced, Gone, Taken}
 use Rattle.runs.proofs.Choices.{cond-holds}
 use Rattle.runs.proofs.Numbered.{paused-only, step-answers}
@@ -58,7 +58,7 @@ turned-pos (suc k) v some =
 
 -- one step, done or refused, as the code counts it
 pub turn-counted : (v : Seen) (bytes m : ℕ) (r : List ℕ) (x : Performed) → paused (v .control .answer) ≡ true → 0 < v .control .left
-    → lengthsRight (v .bytes) (length (v .registers)) ≡ true → Performs (stateIn v) 1 bytes m r x
+    → lengthsRight (v .bytes) (length (v .registers)) ≡ true → Performs (stateIn v) 1 (at bytes m r) x
     → seen bytes m r (counted (v .control .rec) (v .control .left) x) ≡ turn v
 unfolding turn
 turn-counted v bytes m r (Did c j) goes some right p =
@@ -67,20 +67,24 @@ turn-counted v bytes m r (Did c j) goes some right p =
     rw (goes, right, turned-pos (v .control .left) v some, one-stride _ _ j (p .0) (p .1 .0) (p .1 .1), e)
 turn-counted v bytes m r (Ended a) goes some right p =
     let f : suc (v .control .left - 1) ≡ v .control .left = omega arith in
-    rw (goes, right, turned-pos (v .control .left) v some, p .0, p .1 .0, p .1 .1 .0, p .1 .1 .1, f)
+    ap (λ (t : State). seen (t .bytes) (t .memory) (t .registers) (control (v .control .rec) (v .control .left) a)) (p .1)
+    ∙ rw (goes, right, turned-pos (v .control .left) v some, p .0, f)
 
 -- no more steps are done than are left
-pub performs-within : (s : State) (most bytes m : ℕ) (r : List ℕ) (left : ℕ) (x : Performed) → most ≤ left → Performs s most bytes m r x → Within left x
-performs-within s most bytes m r left (Did c j) few p = omega (arith, p .1 .0)
-performs-within s most bytes m r left (Ended a) few p = tt
+pub performs-within : (s : State) (most : ℕ) (there : Record → State) (left : ℕ) (x : Performed) → most ≤ left → Performs s most there x → Within left x
+performs-within s most there left (Did c j) few p = omega (arith, p .1 .0)
+performs-within s most there left (Ended a) few p = tt
 
 pub within-of : (left : ℕ) (x : Performed) (c : Record) (j : ℕ) → Within left x → x ≡ Did c j → j ≤ left
 within-of left x c j w e = rw e at w
 
 -- SOME STEPS
 
+abbrev halted : State → Answer → ℕ → Stopped
+halted s a left = record { state = s; answer = a; left = left }
+
 pub advanced-counted : (v : Seen) (bytes m : ℕ) (r : List ℕ) (x : Performed) → paused (v .control .answer) ≡ true → 0 < v .control .left
-    → Sound (stateIn v) → Performs (stateIn v) (v .control .left) bytes m r x
+    → Sound (stateIn v) → Performs (stateIn v) (v .control .left) (at bytes m r) x
     → Advanced v (seen bytes m r (counted (v .control .rec) (v .control .left) x))
 unfolding resume
 advanced-counted v bytes m r (Did c j) goes some ok p =
@@ -97,7 +101,7 @@ advanced-counted v bytes m r (Did c j) goes some ok p =
 advanced-counted v bytes m r (Ended a) goes some ok p =
     let q = step-answers _ a (p .0) in
     record {
-      same = rw (goes, q, p .1 .0, p .1 .1 .0, p .1 .1 .1) (sym (iterate-ended (v .control .left) _ a some (p .0)));
+      same = rw (goes, q) (ap (λ (t : State). halted t a (v .control .left)) (p .1) ∙ sym (iterate-ended (v .control .left) _ a some (p .0)));
       most = omega arith;
       less = λ h. absurd (false≢true (sym q ∙ h));
       sound = λ h. absurd (false≢true (sym q ∙ h));
@@ -140,43 +144,43 @@ resume-over v h = go (paused (v .control .answer)) refl h
     go false q k = refl
 
 -- where the beginning leads is the run
-run-begins : (bytes m : ℕ) (r : List ℕ) (c : Record) (budget : ℕ) → run budget (at bytes m r c) ≡ closed budget (resume (seen bytes m r (beginning bytes r c budget)))
+run-begins : (budget : ℕ) (s : State) → run budget s ≡ closed budget (resume (beginAt budget s))
 unfolding run beginning resume
-run-begins bytes m r c budget = go (lengthsRight bytes (length r)) (possible bytes r c)
+run-begins budget s = go (lengthsRight (s .bytes) (length (s .registers))) (possible (s .bytes) (s .registers) (s .rec))
   where
     nothing : budget - budget ≡ 0
     nothing = omega arith
 
     go : (a b : Bool)
-        → cond a (cond b (closed budget (iterate budget (at bytes m r c))) (call (at bytes m r c) Impossible 0)) (call (at bytes m r c) Lengths 0)
-        ≡ closed budget (resume (seen bytes m r (cond a (cond b (control c budget Paused) (control c budget Impossible)) (control c budget Lengths))))
+        → cond a (cond b (closed budget (iterate budget s)) (call s Impossible 0)) (call s Lengths 0)
+        ≡ closed budget (resume (seen (s .bytes) (s .memory) (s .registers) (cond a (cond b (control (s .rec) budget Paused) (control (s .rec) budget Impossible)) (control (s .rec) budget Lengths))))
     go true true = refl
     go true false = rw nothing
     go false b = rw nothing
 
 -- a beginning that goes on is sound
-pub begins-sound : (bytes m : ℕ) (r : List ℕ) (c : Record) (budget : ℕ) (d : Control) → d ≡ beginning bytes r c budget → paused (d .answer) ≡ true → Sound (at bytes m r (d .rec))
+pub begins-sound : (budget : ℕ) (s : State) (d : Control) → d ≡ beginning (s .bytes) (s .registers) (s .rec) budget → paused (d .answer) ≡ true
+    → Sound (at (s .bytes) (s .memory) (s .registers) (d .rec))
 unfolding beginning
-begins-sound bytes m r c budget d e h = go (lengthsRight bytes (length r)) refl (possible bytes r c) refl e
+begins-sound budget s d e h = go (lengthsRight (s .bytes) (length (s .registers))) refl (possible (s .bytes) (s .registers) (s .rec)) refl e
   where
-    go : (a : Bool) → lengthsRight bytes (length r) ≡ a → (b : Bool) → possible bytes r c ≡ b
-        → d ≡ cond a (cond b (control c budget Paused) (control c budget Impossible)) (control c budget Lengths) → Sound (at bytes m r (d .rec))
+    go : (a : Bool) → lengthsRight (s .bytes) (length (s .registers)) ≡ a → (b : Bool) → possible (s .bytes) (s .registers) (s .rec) ≡ b
+        → d ≡ cond a (cond b (control (s .rec) budget Paused) (control (s .rec) budget Impossible)) (control (s .rec) budget Lengths)
+        → Sound (at (s .bytes) (s .memory) (s .registers) (d .rec))
     go true p true q k = rw k (record { lengths = p; can = q })
     go true p false q k = absurd (false≢true (rw k at h))
     go false p b q k = absurd (false≢true (rw k at h))
 
-pub taken-ends : (bytes m : ℕ) (r : List ℕ) (bytes₁ m₁ : ℕ) (r₁ : List ℕ) (bytes' m' : ℕ) (r' : List ℕ) (c : Record) (budget : ℕ) (b d : Control)
-    → Taken (seen bytes m r (beginning bytes r c budget)) (seen bytes₁ m₁ r₁ b) → Gone (seen bytes₁ m₁ r₁ b) (seen bytes' m' r' d)
-    → called bytes' m' r' (finishing d budget) ≡ run budget (at bytes m r c)
-unfolding finishing
-taken-ends bytes m r bytes₁ m₁ r₁ bytes' m' r' c budget b d began g =
-    ap (closed budget) (sym (resume-over (seen bytes' m' r' d) (g .over)) ∙ g .same ∙ began .same) ∙ sym (run-begins bytes m r c budget)
-
 -- a call that only begins
-pub taken-begun : (bytes m : ℕ) (r : List ℕ) (c : Record) (budget : ℕ) (b : Control) → b ≡ beginning bytes r c budget
-    → Taken (seen bytes m r (beginning bytes r c budget)) (seen bytes m r b)
-taken-begun bytes m r c budget b e = record { same = ap (λ (x : Control). resume (seen bytes m r x)) e; sound = begins-sound bytes m r c budget b e }
+pub taken-begun : (budget : ℕ) (s : State) (b : Control) → b ≡ beginning (s .bytes) (s .registers) (s .rec) budget
+    → Taken budget s (seen (s .bytes) (s .memory) (s .registers) b)
+taken-begun budget s b e =
+    record { same = ap (λ (x : Control). resume (seen (s .bytes) (s .memory) (s .registers) x)) e; sound = begins-sound budget s b e }
 
-pub run-ends : (bytes m : ℕ) (r : List ℕ) (bytes' m' : ℕ) (r' : List ℕ) (c : Record) (budget : ℕ) (b d : Control) → b ≡ beginning bytes r c budget
-    → Gone (seen bytes m r b) (seen bytes' m' r' d) → called bytes' m' r' (finishing d budget) ≡ run budget (at bytes m r c)
-run-ends bytes m r bytes' m' r' c budget b d began g = taken-ends bytes m r bytes m r bytes' m' r' c budget b d (taken-begun bytes m r c budget b began) g
+-- a call that goes on until nothing is left to do
+pub taken-ends : (budget : ℕ) (s : State) (v w : Seen) → Taken budget s v → Gone v w → finishAt budget w ≡ run budget s
+unfolding finishing
+taken-ends budget s v w began g = ap (closed budget) (sym (resume-over w (g .over)) ∙ g .same ∙ began .same) ∙ sym (run-begins budget s)
+
+pub run-ends : (budget : ℕ) (s : State) (w : Seen) → Gone (beginAt budget s) w → finishAt budget w ≡ run budget s
+run-ends budget s w g = taken-ends budget s (beginAt budget s) w (taken-begun budget s _ refl) g

@@ -1,22 +1,27 @@
--- Steps lead where whole instructions lead, or they and the first items of the next. Assumes nothing.
+-- Steps lead where whole instructions lead, or they and the first items of the next.
 use mathlib.Core.Path.{_≡_, refl, sym, _∙_, ap}
-use mathlib.Core.Bool.{Bool, true, false}
+use mathlib.Core.Bool.{Bool, true, false, cond}
 use Prim.Native.Nat.{ℕ, zero, suc, _+_, _<_, _≤_}
 use native.Mathlib.Omega.{arith}
 use lib.Dec.{eqb, ltb}
-use borrow.Author.Tests.{eq-eqb, eqb-true, eqb-false, ltb-true, ltb-false}
+use borrow.Author.Tests.{eqb-true, eqb-false, ltb-true, ltb-false}
 use Rattle.fields.specs.Memory.{rightLength}
 use Rattle.instructions.specs.Fetch.{lengthOf}
 use Rattle.instructions.specs.Items.{Worked, worked}
 use Rattle.instructions.specs.Instruction.{byItems, countOf, worksOf}
 use Rattle.instructions.proofs.Steps.{works-none, works-whole}
 use Rattle.runs.specs.declared.answers.Answer.{Answer}
+use Rattle.runs.specs.declared.answers.Said.{Said}
+use Rattle.runs.specs.declared.answers.Said.the-variants.{Ends, Allows}
+use Rattle.runs.specs.Answers.{saidOf}
 use Rattle.runs.specs.Records.{between}
-use Rattle.runs.specs.Steps.{State, at, Stepped, ended, next, burst, heldAt, passed, acted, wordAt, operandsAt, verdictAt, itemsAt, heldOperands, step, bind, strides}
+use Rattle.runs.specs.Steps.{State, at, Stepped, ended, next, burst, heldAt, passed, acted, wordAt, operandsAt, verdictAt, itemsAt, answered, heldOperands, step, bind, strides}
 use Rattle.runs.specs.Calls.{Sound}
 use Rattle.runs.specs.Wholes.{firstItems, allItems, wholeStep, wholes, stepsOf, wholeSteps, Partial, cutAt, Reached, whole, part}
 use Rattle.runs.proofs.Choices.{ne-pos}
+use Rattle.runs.proofs.Numbered.{said-0, allows-passes}
 use Rattle.runs.proofs.Soundness.{lengths-of, strides-sound, possible-marked}
+use Rattle.runs.proofs.Iterating.{one-stride}
 use Rattle.runs.proofs.Bursting.{Stands, holds-of, step-held, burst-half, burst-done, burst-more, strides-some}
 use Rattle.runs.proofs.Performing.{step-refused, step-passed, step-first, step-acted}
 
@@ -32,16 +37,18 @@ burst-cut s k lent h =
 
 burst-all : (s : State) (k : ℕ) → rightLength (s .bytes) ≡ true → verdictAt s ≡ 0 → byItems (wordAt s) ≡ true → k ≡ itemsAt s → burst (wordAt s) (operandsAt s) 0 k s ≡ allItems s
 burst-all s k lent passes is all =
-    burst-done (wordAt s) (operandsAt s) 0 k s (omega (arith, all)) ∙ rw (turn-or-once s k lent passes is (omega (arith, all))) (ap (λ (n : ℕ). at (s .bytes) (firstItems n s .memory) (s .registers) (between (s .rec .p + lengthOf (wordAt s)) (firstItems n s .flags))) all)
+    burst-done (wordAt s) (operandsAt s) 0 k s (omega (arith, all))
+    ∙ rw (turn-or-once s k lent passes is (omega (arith, all)))
+    (ap (λ (n : ℕ). at (s .bytes) (firstItems n s .memory) (s .registers) (between (s .rec .p + lengthOf (wordAt s)) (firstItems n s .flags))) all)
 
 -- one whole instruction
 whole-items : (s : State) → verdictAt s ≡ 0 → byItems (wordAt s) ≡ true → wholeStep s ≡ next (allItems s)
 unfolding wholeStep
-whole-items s passes is = rw (eq-eqb _ _ passes, is)
+whole-items s passes is = ap (λ (x : Said). answered x (cond (byItems (wordAt s)) (allItems s) (acted s))) (ap saidOf passes ∙ said-0) ∙ rw is
 
 whole-acted : (s : State) → verdictAt s ≡ 0 → byItems (wordAt s) ≡ false → wholeStep s ≡ next (acted s)
 unfolding wholeStep
-whole-acted s passes other = rw (eq-eqb _ _ passes, other)
+whole-acted s passes other = ap (λ (x : Said). answered x (cond (byItems (wordAt s)) (allItems s) (acted s))) (ap saidOf passes ∙ said-0) ∙ rw other
 
 one-more : (s u : State) (i : ℕ) (t : State) → wholes i s ≡ next u → wholeStep u ≡ next t → wholes (suc i) s ≡ next t
 unfolding wholes
@@ -94,7 +101,7 @@ after-items s u i k j e steps lent m passes is some few t b = go (ltb k (itemsAt
 
 -- a step from between two instructions
 after-whole : (s u : State) (i j : ℕ) → wholes i s ≡ next u → j ≡ wholeSteps i s + 1 → rightLength (u .bytes) ≡ true → u .rec .mark ≡ 0 → (t : State) → step u ≡ next t → Reached s j t
-after-whole s u i j e steps lent m t h = verdicts (eqb (verdictAt u) 0) refl
+after-whole s u i j e steps lent m t h = said (saidOf (verdictAt u)) refl
   where
     ended-next : (a : Answer) → ended a ≡ next t → ⊥
     ended-next a q =
@@ -119,9 +126,9 @@ after-whole s u i j e steps lent m t h = verdicts (eqb (verdictAt u) 0) refl
         let a = same _ (step-acted u m passes other) in
         end-whole s u i 1 j e (steps-other u other) steps t _ a (whole-acted u passes other) refl
 
-    verdicts : (b : Bool) → eqb (verdictAt u) 0 ≡ b → Reached s j t
-    verdicts true q = kinds (eqb-true _ _ q) (byItems (wordAt u)) refl
-    verdicts false q = absurd (ended-next _ (sym (step-refused u m (eqb-false _ _ q)) ∙ h))
+    said : (x : Said) → saidOf (verdictAt u) ≡ x → Reached s j t
+    said Allows q = kinds (allows-passes u q) (byItems (wordAt u)) refl
+    said (Ends a) q = absurd (ended-next a (sym (step-refused u a m q) ∙ h))
 
 -- a step from half way
 after-part : (s u : State) (i k j : ℕ) → wholes i s ≡ next u → j ≡ wholeSteps i s + suc k → rightLength (u .bytes) ≡ true → Partial u k → (t : State) → step (cutAt k u) ≡ next t → Reached s j t
@@ -160,10 +167,27 @@ steps-cut s k ok h =
     let first = step-first s (h .unmarked) (h .passes) (h .of-items) (omega (arith, h .short)) in
     strides-some (wordAt s) 0 s (record { passes = h .passes; of-items = h .of-items }) first k (h .some) (omega (arith, h .short)) ∙ ap next (burst-cut s k lent h)
 
--- j steps more of what is half done, and not the last
-pub steps-held : (s : State) (j : ℕ) → Sound s → (s .rec .mark ≡ 0 → ⊥) → 0 < j → s .rec .items + j < countOf (s .rec .word) (heldOperands s) → strides j s ≡ next (heldAt j s)
-steps-held s j ok marked some short =
+-- as many steps as an instruction of items has: all of them
+pub steps-whole : (s : State) → Sound s → s .rec .mark ≡ 0 → verdictAt s ≡ 0 → byItems (wordAt s) ≡ true → strides (stepsOf s) s ≡ next (allItems s)
+steps-whole s ok m passes is = go (eqb (itemsAt s) 0) refl
+  where
+    lent : rightLength (s .bytes) ≡ true
+    lent = lengths-of _ _ (ok .lengths) .0
+
+    go : (b : Bool) → eqb (itemsAt s) 0 ≡ b → strides (stepsOf s) s ≡ next (allItems s)
+    go true q =
+        let none : itemsAt s ≡ 0 = eqb-true _ _ q in
+        ap (λ (j : ℕ). strides j s) (steps-none s is none)
+        ∙ one-stride s (passed s) (step-passed s m passes is none) ∙ ap next (passed-all s lent passes is none)
+    go false q =
+        let some : 0 < itemsAt s = ne-pos _ (eqb-false _ _ q) in
+        ap (λ (j : ℕ). strides j s) (steps-items s (itemsAt s) is some refl)
+        ∙ strides-some (wordAt s) 0 s (record { passes = passes; of-items = is }) (step-first s m passes is some) (itemsAt s) some (omega arith)
+        ∙ ap next (burst-all s (itemsAt s) lent passes is refl)
+
+-- j steps more of what is half done
+pub steps-held : (s : State) (j : ℕ) → Sound s → (s .rec .mark ≡ 0 → ⊥) → 0 < j → s .rec .items + j ≤ countOf (s .rec .word) (heldOperands s) → strides j s ≡ next (heldAt j s)
+steps-held s j ok marked some few =
     let half-way = possible-marked (s .bytes) (s .registers) (s .rec) (ok .can) marked in
     let holds = holds-of (s .bytes) (s .registers) (s .rec) half-way in
-    strides-some (s .rec .word) (s .rec .items) s (record { passes = holds .passes; of-items = holds .of-items }) (step-held s half-way) j some (omega arith)
-    ∙ ap next (burst-half (s .rec .word) (heldOperands s) (s .rec .items) j s short)
+    strides-some (s .rec .word) (s .rec .items) s (record { passes = holds .passes; of-items = holds .of-items }) (step-held s half-way) j some few

@@ -1,13 +1,14 @@
--- A call: as many steps as the budget allows. Assumes nothing.
+-- A call: as many steps as the budget allows.
 use mathlib.Core.Path.{_≡_}
 use mathlib.Core.Bool.{Bool, true, cond, _&&_}
 use mathlib.Core.List.{List, [], _∷_}
 use Prim.Native.Nat.{ℕ, zero, suc, _+_, _-_, _<_}
 use lib.Dec.{eqb}
-use lib.ListN.{length}
+use lib.ListN.{length, set}
 use Rattle.fields.specs.Memory.{rightLength}
 use Rattle.runs.specs.declared.answers.Answer.{Answer}
 use Rattle.runs.specs.declared.answers.Answer.the-variants.{Paused, Lengths, Impossible}
+use Rattle.runs.specs.declared.records.Record.{Record}
 use Rattle.runs.specs.declared.calls.Outcome.{Outcome}
 use Rattle.runs.specs.Records.{possible}
 use Rattle.runs.specs.Steps.{State, at, Stepped, ended, next, verdictAt, step, strides}
@@ -51,16 +52,21 @@ run budget s =
     (cond (possible (s .bytes) (s .registers) (s .rec)) (closed budget (iterate budget s)) (call s Impossible 0))
     (call s Lengths 0)
 
--- What the code's outcome says, with the memory and registers that it leaves.
-abbrev pub called : ℕ → ℕ → List ℕ → Outcome → Call
-called bytes m r o = call (at bytes m r (o .rec)) (o .answer) (o .steps)
+-- What an outcome of the code says, with what it leaves: `there` is the state that the memory and registers which it leaves make with a record.
+abbrev pub leaves : (Record → State) → Outcome → Call
+leaves there o = call (there (o .rec)) (o .answer) (o .steps)
+
+-- The same state with v in register 00.
+abbrev pub with00 : ℕ → State → State
+with00 v s = at (s .bytes) (s .memory) (set (s .registers) 0 v) (s .rec)
 
 -- Neither 2 nor 3: the lengths are right, and the record is possible.
 pub record Sound (s : State) : Type 0 where
   pub lengths : lengthsRight (s .bytes) (length (s .registers)) ≡ true
   pub can : possible (s .bytes) (s .registers) (s .rec) ≡ true
 
--- 01, What a call says, "When" of 1 and of 4 to 11: j steps, fewer than the budget n, lead from s to a state between two instructions where v is the verdict on the word at P.
+-- 01, What a call says, "When" of 1 and of 4 to 11: j steps, fewer than the budget n, lead from s to a state between two instructions where v is the verdict on
+-- the word at P.
 pub record Refused (n : ℕ) (s : State) (v j : ℕ) (t : State) : Type 0 where
   pub sound : Sound s
   pub fewer : j < n

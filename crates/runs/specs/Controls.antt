@@ -1,4 +1,4 @@
--- The control state by value: the record, what is left of the budget, and the answer, which is `Paused` while none is known. Assumes nothing.
+-- The control state by value: the record, what is left of the budget, and the answer, which is `Paused` while none is known.
 use mathlib.Core.Bool.{cond}
 use mathlib.Core.List.{List}
 use Prim.Native.Nat.{ℕ, zero, suc, _-_}
@@ -10,8 +10,9 @@ use Rattle.runs.specs.declared.calls.Outcome.{Outcome}
 use Rattle.runs.specs.declared.control.Control.{Control}
 use Rattle.runs.specs.Answers.{paused}
 use Rattle.runs.specs.Records.{possible}
+use Rattle.fields.specs.Bytes.{num}
 use Rattle.runs.specs.Steps.{State, at, Stepped, ended, next, step}
-use Rattle.runs.specs.Calls.{lengthsRight, Call, called}
+use Rattle.runs.specs.Calls.{lengthsRight, Call, leaves}
 
 abbrev pub control : Record → ℕ → Answer → Control
 control c left a = record { rec = c; left = left; answer = a }
@@ -26,16 +27,20 @@ pub record Seen : Type 0 where
 abbrev pub seen : ℕ → ℕ → List ℕ → Control → Seen
 seen bytes m r c = record { bytes = bytes; memory = m; registers = r; control = c }
 
+-- The same of bytes and registers as they are lent.
+abbrev pub seenAt : List ℕ → List ℕ → Control → Seen
+seenAt m r c = seen (length m) (num m) r c
+
 abbrev pub stateIn : Seen → State
 stateIn v = at (v .bytes) (v .memory) (v .registers) (v .control .rec)
 
--- Begin: 2 and 3.
+-- Where a run begins, or ends with 2 or 3.
 unfoldable pub beginning : ℕ → List ℕ → Record → ℕ → Control
 beginning bytes registers c budget =
     cond (lengthsRight bytes (length registers)) (cond (possible bytes registers c) (control c budget Paused) (control c budget Impossible))
     (control c budget Lengths)
 
--- Step, with one more than k left of the budget: one step less is left, or an answer is known.
+-- A step with one more than k left of the budget: k are left, or an answer is known.
 abbrev pub turned : Stepped → Seen → ℕ → Seen
 turned (ended a) v k = seen (v .bytes) (v .memory) (v .registers) (control (v .control .rec) (suc k) a)
 turned (next t) v k = seen (t .bytes) (t .memory) (t .registers) (control (t .rec) k Paused)
@@ -44,22 +49,22 @@ abbrev pub turnedAt : ℕ → Seen → Seen
 turnedAt zero v = v
 turnedAt (suc k) v = turned (step (stateIn v)) v k
 
--- Step: none where an answer is known, nothing is left of the budget, or a length is wrong.
+-- One step of a run. None is taken where an answer is known, nothing is left of the budget, or a length is wrong.
 unfoldable pub turn : Seen → Seen
 turn v = cond (paused (v .control .answer)) (cond (lengthsRight (v .bytes) (length (v .registers))) (turnedAt (v .control .left) v) v) v
 
--- Step, so many times.
+-- So many steps of a run.
 abbrev pub turns : ℕ → Seen → Seen
 turns zero v = v
 turns (suc k) v = turns k (turn v)
 
--- Finish.
+-- What a run says, of the budget that it began with.
 unfoldable pub finishing : Control → ℕ → Outcome
 finishing c budget = record { answer = c .answer; steps = budget - c .left; rec = c .rec }
 
--- Begin at a state, and finish with what it has become: a call.
+-- A run begun at a state, and what it is finished with: a call.
 abbrev pub beginAt : ℕ → State → Seen
 beginAt budget s = seen (s .bytes) (s .memory) (s .registers) (beginning (s .bytes) (s .registers) (s .rec) budget)
 
 abbrev pub finishAt : ℕ → Seen → Call
-finishAt budget v = called (v .bytes) (v .memory) (v .registers) (finishing (v .control) budget)
+finishAt budget v = leaves (at (v .bytes) (v .memory) (v .registers)) (finishing (v .control) budget)

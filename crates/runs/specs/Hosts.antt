@@ -1,4 +1,4 @@
--- What a call leaves to a host that lends its record. Assumes nothing.
+-- What a call leaves to a host that lends its record.
 use Prim.Native.Nat.{ℕ, _+_, _*_, _^_}
 use Rattle.runs.specs.declared.answers.Answer.{Answer}
 use Rattle.runs.specs.Answers.{numberOf}
@@ -9,7 +9,8 @@ use Rattle.runs.specs.Calls.{Call}
 unfoldable pub packed : Answer → ℕ → ℕ
 packed a steps = numberOf a * 2 ^ 32 + steps
 
--- 01, The machine that the job sees: "in the outer call the record is lent to the run and holds the new state afterwards". The state, its record in it, and the result.
+-- 01, The machine that the job sees: "in the outer call the record is lent to the run and holds the new state afterwards". The state, its record in it, and the
+-- result.
 pub record Lent : Type 0 where
   pub state : State
   pub result : ℕ

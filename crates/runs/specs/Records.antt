@@ -1,4 +1,4 @@
--- The record, and when it is possible. Assumes nothing.
+-- The record, and when it is possible.
 use mathlib.Core.Bool.{Bool, _&&_, _||_}
 use mathlib.Core.List.{List}
 use Prim.Native.Nat.{ℕ, _%_, _^_}
@@ -22,7 +22,8 @@ placeRight p = ltb p (2 ^ 48) && eqb (p % 32) 0
 unfoldable pub betweenTwo : Record → Bool
 betweenTwo r = eqb (r .mark) 0 && (eqb (r .word) 0 && eqb (r .items) 0)
 
--- 01, What a call says: "the held word at P would fit memory, is a vector, bit or move instruction .. passing 5 to 11 with the present registers, and 1 <= items done < its items".
+-- 01, What a call says: "the held word at P would fit memory, is a vector, bit or move instruction .. passing 5 to 11 with the present registers, and
+-- 1 <= items done < its items".
 unfoldable pub halfDone : ℕ → List ℕ → Record → Bool
 halfDone bytes registers r =
     eqb (r .mark) 1

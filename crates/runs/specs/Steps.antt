@@ -1,8 +1,10 @@
--- One step of a job: the state before it, and the next. Assumes nothing.
+-- One step of a job: the state before it, and the next.
 use mathlib.Core.Bool.{cond}
 use mathlib.Core.List.{List}
 use Prim.Native.Nat.{ℕ, zero, suc, _+_}
 use lib.Dec.{eqb, ltb}
+use lib.ListN.{length}
+use Rattle.fields.specs.Bytes.{num}
 use Rattle.instructions.specs.declared.operands.Operands.{Operands}
 use Rattle.instructions.specs.Fetch.{fetchOf, lengthOf}
 use Rattle.instructions.specs.Operands.{gathered}
@@ -11,8 +13,10 @@ use Rattle.instructions.specs.Items.{Worked, worked}
 use Rattle.instructions.specs.Instruction.{byItems, countOf, worksOf, Done, actsOf}
 use Rattle.runs.specs.declared.answers.Answer.{Answer}
 use Rattle.runs.specs.declared.answers.Answer.the-variants.{Impossible}
+use Rattle.runs.specs.declared.answers.Said.{Said}
+use Rattle.runs.specs.declared.answers.Said.the-variants.{Ends, Allows}
 use Rattle.runs.specs.declared.records.Record.{Record}
-use Rattle.runs.specs.Answers.{answerOf}
+use Rattle.runs.specs.Answers.{saidOf}
 use Rattle.runs.specs.Records.{halfDone, half, between}
 
 -- 01, The machine that the job sees: memory of so many bytes as one number, registers, record.
@@ -24,6 +28,10 @@ pub record State : Type 0 where
 
 abbrev pub at : ℕ → ℕ → List ℕ → Record → State
 at bytes m r c = record { bytes = bytes; memory = m; registers = r; rec = c }
+
+-- The state that bytes and registers make as they are lent, with a record.
+abbrev pub lentAt : List ℕ → List ℕ → Record → State
+lentAt m r c = at (length m) (num m) r c
 
 -- A step is taken, or an answer is given and nothing changes.
 pub data Stepped : Type 0 where
@@ -78,16 +86,26 @@ acted s = finished (s .bytes) (actsOf (s .rec .p) (wordAt s) (operandsAt s) (s .
 unfoldable pub begun : State → State
 begun s = cond (byItems (wordAt s)) (cond (eqb (itemsAt s) 0) (passed s) (burst (wordAt s) (operandsAt s) 0 1 s)) (acted s)
 
+-- What the checks say: the run ends with an answer, or the step leads to t.
+abbrev pub answered : Said → State → Stepped
+answered (Ends a) t = ended a
+answered Allows t = next t
+
 -- 01, Steps: "All checks come before the first step."
 unfoldable pub fresh : State → Stepped
-fresh s = cond (eqb (verdictAt s) 0) (next (begun s)) (ended (answerOf (verdictAt s)))
+fresh s = answered (saidOf (verdictAt s)) (begun s)
 
--- 01, Steps: "The instruction is fetched once." The next item of the word that the record holds: "Memory at P may differ from the held word".
+-- 01, Instruction words: what the registers that the held word names supply.
 abbrev pub heldOperands : State → Operands
 heldOperands s = gathered (s .rec .word) (s .registers)
 
+-- 01, Steps: "The instruction is fetched once." The next j items of the word that the record holds: "Memory at P may differ from the held word".
+abbrev pub heldAt : ℕ → State → State
+heldAt j s = burst (s .rec .word) (heldOperands s) (s .rec .items) j s
+
+-- 01, Steps: the next step of what is half done. A record that is marked and not half done is impossible.
 unfoldable pub held : State → Stepped
-held s = cond (halfDone (s .bytes) (s .registers) (s .rec)) (next (burst (s .rec .word) (heldOperands s) (s .rec .items) 1 s)) (ended Impossible)
+held s = cond (halfDone (s .bytes) (s .registers) (s .rec)) (next (heldAt 1 s)) (ended Impossible)
 
 -- 01, The machine that the job sees: "One step takes a control state and gives the next".
 unfoldable pub step : State → Stepped
@@ -103,9 +121,3 @@ bind (next s) f = f s
 unfoldable pub strides : ℕ → State → Stepped
 strides zero s = next s
 strides (suc j) s = bind (strides j s) step
-
--- 01, Steps: j items more of the word that the record holds, and not the last.
-abbrev pub heldAt : ℕ → State → State
-heldAt j s =
-    at (s .bytes) (worksAt (s .rec .word) (heldOperands s) (s .rec .items) j s .memory) (s .registers)
-    (half (s .rec .p) (s .rec .word) (s .rec .items + j) (worksAt (s .rec .word) (heldOperands s) (s .rec .items) j s .flags))

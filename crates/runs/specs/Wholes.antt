@@ -1,16 +1,16 @@
--- Whole instructions, each working from its sources as they stood when it began: a definition that knows no steps of an instruction. Assumes nothing.
+-- Whole instructions, each working from its sources as they stood when it began: a definition that knows no steps of an instruction.
 use mathlib.Core.Path.{_≡_}
 use mathlib.Core.Bool.{true, cond}
 use Prim.Native.Nat.{ℕ, zero, suc, _+_, _<_, max}
-use lib.Dec.{eqb}
 use Rattle.instructions.specs.Fetch.{lengthOf}
 use Rattle.instructions.specs.Items.{Worked, worked}
 use Rattle.instructions.specs.Instruction.{byItems, wholeOf}
-use Rattle.runs.specs.Answers.{answerOf}
+use Rattle.runs.specs.Answers.{saidOf}
 use Rattle.runs.specs.Records.{half, between}
-use Rattle.runs.specs.Steps.{State, at, Stepped, ended, next, wordAt, operandsAt, verdictAt, itemsAt, acted, bind}
+use Rattle.runs.specs.Steps.{State, at, Stepped, ended, next, wordAt, operandsAt, verdictAt, itemsAt, acted, answered, bind}
 
--- 01, Steps: "exactly that many items worked, from the first on, and nothing of the later ones": memory and flags with the first k items of the word at P, at once.
+-- 01, Steps: "exactly that many items worked, from the first on, and nothing of the later ones": memory and flags with the first k items of the word at P, at
+-- once.
 abbrev pub firstItems : ℕ → State → Worked
 firstItems k s = wholeOf (wordAt s) (operandsAt s) (s .bytes) k (worked (s .memory) (s .rec .flags))
 
@@ -20,8 +20,7 @@ allItems s = at (s .bytes) (firstItems (itemsAt s) s .memory) (s .registers) (be
 
 -- The instruction at P, whole, or why it is refused.
 unfoldable pub wholeStep : State → Stepped
-wholeStep s =
-    cond (eqb (verdictAt s) 0) (next (cond (byItems (wordAt s)) (allItems s) (acted s))) (ended (answerOf (verdictAt s)))
+wholeStep s = answered (saidOf (verdictAt s)) (cond (byItems (wordAt s)) (allItems s) (acted s))
 
 -- i instructions, all of them done.
 unfoldable pub wholes : ℕ → State → Stepped

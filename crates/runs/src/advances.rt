@@ -2,12 +2,11 @@
 ghost use mathlib.Core.Path.{_≡_};
 ghost use mathlib.Core.Bool.{true};
 ghost use Prim.Native.Nat.{_<_};
-ghost use lib.ListN.{length};
-ghost use Rattle.fields.specs.Bytes.{num};
 ghost use Rattle.runs.specs.Answers.{paused};
+ghost use Rattle.runs.specs.Steps.{lentAt};
 ghost use Rattle.runs.specs.Calls.{Sound};
-ghost use Rattle.runs.specs.Controls.{seen, stateIn, beginning};
-ghost use Rattle.runs.specs.Inner.{Within, counted, mayGo, Advanced, Gone, Taken};
+ghost use Rattle.runs.specs.Controls.{seenAt};
+ghost use Rattle.runs.specs.Inner.{Within, counted, mayGo, Advanced, Gone, Taken, Picked};
 use crate::answers::Answer;
 use crate::answers::is_paused;
 use crate::checks::goes_on;
@@ -34,8 +33,8 @@ pub fn counted(rec: Record, left: u32, got: Performed) -> Control
             }
         }
         Performed::Ended(a) => Control {
-            rec: rec,
-            left: left,
+            rec,
+            left,
             answer: a,
         },
     }
@@ -43,8 +42,8 @@ pub fn counted(rec: Record, left: u32, got: Performed) -> Control
 
 // Steps of one instruction, as many as it has left or the budget allows.
 fn advance(c: Control, memory: &mut [u8], registers: &mut [u64]) -> Control
-    requires { ⌜ (0 < c .left) × (paused (c .answer) ≡ true) × Sound (stateIn (seen (length (now memory)) (num (now memory)) (now registers) c)) ⌝ }
-    ensures { λ d. ⌜ Advanced (seen (length (now (memory .entry))) (num (now (memory .entry))) (now (registers .entry)) c) (seen (length (now (memory .exit))) (num (now (memory .exit))) (now (registers .exit)) d) ⌝ }
+    requires { ⌜ (0 < c .left) × (paused (c .answer) ≡ true) × Sound (lentAt (now memory) (now registers) (c .rec)) ⌝ }
+    ensures { λ d. ⌜ Advanced (seenAt (now (memory .entry)) (now (registers .entry)) c) (seenAt (now (memory .exit)) (now (registers .exit)) d) ⌝ }
 {
     let rec = c.rec;
     let left = c.left;
@@ -66,8 +65,8 @@ fn may_go(c: Control) -> bool
 
 // As many steps as are left of the budget.
 pub fn go(c: Control, memory: &mut [u8], registers: &mut [u64]) -> Control
-    requires { ⌜ (paused (c .answer) ≡ true → Sound (stateIn (seen (length (now memory)) (num (now memory)) (now registers) c))) ⌝ }
-    ensures { λ d. ⌜ Gone (seen (length (now (memory .entry))) (num (now (memory .entry))) (now (registers .entry)) c) (seen (length (now (memory .exit))) (num (now (memory .exit))) (now (registers .exit)) d) ⌝ }
+    requires { ⌜ (paused (c .answer) ≡ true → Sound (lentAt (now memory) (now registers) (c .rec))) ⌝ }
+    ensures { λ d. ⌜ Gone (seenAt (now (memory .entry)) (now (registers .entry)) c) (seenAt (now (memory .exit)) (now (registers .exit)) d) ⌝ }
 {
     let mut d = c;
     while may_go(d) {
@@ -79,7 +78,7 @@ pub fn go(c: Control, memory: &mut [u8], registers: &mut [u64]) -> Control
 // What is half done, begun and gone on with: its operands are gathered once, to be judged and to be worked with.
 fn pick_up(memory: &mut [u8], registers: &[u64], rec: Record, budget: u32) -> Performed
     requires { ⌜ rec .mark ≡ 1 ⌝ }
-    ensures { λ r. ⌜ Within budget r × Taken (seen (length (now (memory .entry))) (num (now (memory .entry))) (now (registers .entry)) (beginning (length (now (memory .entry))) (now (registers .entry)) rec budget)) (seen (length (now (memory .exit))) (num (now (memory .exit))) (now (registers .entry)) (counted rec budget r)) ⌝ }
+    ensures { λ r. ⌜ Picked budget (lentAt (now (memory .entry)) (now (registers .entry)) rec) (seenAt (now (memory .exit)) (now (registers .entry))) r ⌝ }
 {
     if !lengths_right(memory.len(), registers.len()) {
         return Performed::Ended(Answer::Lengths);
@@ -96,7 +95,7 @@ fn pick_up(memory: &mut [u8], registers: &[u64], rec: Record, budget: u32) -> Pe
 
 // Begin, and go on at once with what is half done.
 pub fn take_up(memory: &mut [u8], registers: &[u64], rec: Record, budget: u32) -> Control
-    ensures { λ c. ⌜ Taken (seen (length (now (memory .entry))) (num (now (memory .entry))) (now (registers .entry)) (beginning (length (now (memory .entry))) (now (registers .entry)) rec budget)) (seen (length (now (memory .exit))) (num (now (memory .exit))) (now (registers .entry)) c) ⌝ }
+    ensures { λ c. ⌜ Taken budget (lentAt (now (memory .entry)) (now (registers .entry)) rec) (seenAt (now (memory .exit)) (now (registers .entry)) c) ⌝ }
 {
     if rec.mark == 1 {
         let got = pick_up(memory, registers, rec, budget);

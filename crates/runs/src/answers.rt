@@ -1,6 +1,7 @@
 // What a call says.
 ghost use mathlib.Core.Path.{_≡_};
-ghost use Rattle.runs.specs.Answers.{numberOf, answerOf, paused};
+ghost use Rattle.runs.specs.Answers.{numberOf, saidOf, paused};
+ghost use Rattle.runs.specs.Inner.{Tells};
 
 pub enum Answer {
     Paused,
@@ -37,21 +38,35 @@ pub fn number(answer: Answer) -> u64
     }
 }
 
-// The answer of a number that an instruction's checks gave.
-pub fn of_number(number: u64) -> Answer
-    ensures { λ r. ⌜ r ≡ answerOf number ⌝ }
+// What the checks of an instruction say: the answer that ends the run, or that the step is taken.
+pub enum Said {
+    Ends(Answer),
+    Allows,
+}
+
+// The answer of a number, by cases.
+fn look(number: u64) -> Said
+    ensures { λ r. ⌜ Tells r number ⌝ }
 {
     match number {
-        1 => Answer::Exit,
-        4 => Answer::NotThere,
-        5 => Answer::NotListed,
-        6 => Answer::NotZero,
-        7 => Answer::Designator,
-        8 => Answer::Misaligned,
-        9 => Answer::Short,
-        10 => Answer::Outside,
-        _ => Answer::Shared,
+        1 => Said::Ends(Answer::Exit),
+        4 => Said::Ends(Answer::NotThere),
+        5 => Said::Ends(Answer::NotListed),
+        6 => Said::Ends(Answer::NotZero),
+        7 => Said::Ends(Answer::Designator),
+        8 => Said::Ends(Answer::Misaligned),
+        9 => Said::Ends(Answer::Short),
+        10 => Said::Ends(Answer::Outside),
+        11 => Said::Ends(Answer::Shared),
+        _ => Said::Allows,
     }
+}
+
+// What a number that an instruction's checks gave says.
+pub fn said_by(number: u64) -> Said
+    ensures { λ r. ⌜ r ≡ saidOf number ⌝ }
+{
+    look(number)
 }
 
 // Is no other answer known?

@@ -1,4 +1,4 @@
-// What is checked before any step: 2, the lengths, and 3, the record.
+// What is checked before any step: refusal 2, of the lengths, and refusal 3, of the record.
 ghost use mathlib.Core.Path.{_≡_};
 ghost use lib.ListN.{length};
 ghost use Rattle.runs.specs.Records.{flagsRight, placeRight, betweenTwo, halfDone, possible};
@@ -11,10 +11,14 @@ use fields::units::ByteCount;
 use instructions::instruction::count;
 use instructions::operands::Operands;
 use instructions::operands::gather;
+use numbers::flags::FLAG_42;
+use numbers::flags::FLAG_43;
+use numbers::flags::FLAG_46;
 
-// Flags 42, 43 and 46.
-const FLAGS: u64 = 0x32_0000;
+// The flags that a record may have.
+const FLAGS: u64 = FLAG_42 | FLAG_43 | FLAG_46;
 
+// Whether a memory and a register file of these lengths may be lent.
 pub fn lengths_right(bytes: usize, registers: usize) -> bool
     ensures { λ r. ⌜ r ≡ lengthsRight bytes registers ⌝ }
 {
@@ -24,12 +28,14 @@ pub fn lengths_right(bytes: usize, registers: usize) -> bool
     false
 }
 
+// Whether only those flags are set.
 fn flags_right(flags: u64) -> bool
     ensures { λ r. ⌜ r ≡ flagsRight flags ⌝ }
 {
     flags | FLAGS == FLAGS
 }
 
+// Whether P is an address of 48 bits, at a half word.
 fn place_right(p: u64) -> bool
     ensures { λ r. ⌜ r ≡ placeRight p ⌝ }
 {
@@ -39,6 +45,7 @@ fn place_right(p: u64) -> bool
     false
 }
 
+// Whether nothing is half done, and nothing is held.
 fn between_two(rec: Record) -> bool
     ensures { λ r. ⌜ r ≡ betweenTwo rec ⌝ }
 {
@@ -50,7 +57,7 @@ fn between_two(rec: Record) -> bool
     false
 }
 
-// A vector, bit or move instruction that passes its checks with these operands, some of its items done and not all.
+// Whether the held word is a vector, bit or move instruction that passes its checks with these operands, some of its items done and not all.
 fn holding(rec: Record, o: Operands, bytes: u64) -> bool
     ensures { λ r. ⌜ r ≡ holding bytes o rec ⌝ }
 {
@@ -64,7 +71,7 @@ fn holding(rec: Record, o: Operands, bytes: u64) -> bool
     rec.items < count(word, o)
 }
 
-// A record that holds one, with the operands that the registers supply.
+// Whether a record is marked and holds such a word, with the operands that the registers supply.
 pub fn half_done(rec: Record, bytes: u64, registers: &[u64]) -> bool
     requires { ⌜ length (now registers) ≡ 256 ⌝ }
     ensures { λ r. ⌜ r ≡ halfDone bytes (now (registers .entry)) rec ⌝ }
@@ -89,7 +96,7 @@ pub fn goes_on(rec: Record, o: Operands, bytes: u64) -> bool
     holding(rec, o, bytes)
 }
 
-// One that a run can make.
+// Whether a record is possible with these registers: between two instructions, or half done.
 pub fn possible(rec: Record, bytes: u64, registers: &[u64]) -> bool
     requires { ⌜ length (now registers) ≡ 256 ⌝ }
     ensures { λ r. ⌜ r ≡ possible bytes (now (registers .entry)) rec ⌝ }

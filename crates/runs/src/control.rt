@@ -1,8 +1,7 @@
 // The control state by value: begin, step, finish, each handing the next state back.
 ghost use mathlib.Core.Path.{_≡_};
 ghost use lib.ListN.{length};
-ghost use Rattle.fields.specs.Bytes.{num};
-ghost use Rattle.runs.specs.Controls.{seen, beginning, turn, finishing};
+ghost use Rattle.runs.specs.Controls.{seenAt, beginning, turn, finishing};
 use crate::advances::counted;
 use crate::answers::Answer;
 use crate::answers::is_paused;
@@ -20,34 +19,34 @@ pub struct Control {
 }
 
 impl Control {
-    // 2 and 3.
+    // The start of a run, or its end where refusal 2 or 3 applies.
     pub fn begin(memory: &[u8], registers: &[u64], rec: Record, budget: u32) -> Control
         ensures { λ c. ⌜ c ≡ beginning (length (now (memory .entry))) (now (registers .entry)) rec budget ⌝ }
     {
         if !lengths_right(memory.len(), registers.len()) {
             return Control {
-                rec: rec,
+                rec,
                 left: budget,
                 answer: Answer::Lengths,
             };
         }
         if possible(rec, memory.len() as u64, registers) {
             return Control {
-                rec: rec,
-                left: budget, // all of it is left
-                answer: Answer::Paused, // no refusal
+                rec,
+                left: budget, // to begin takes no step
+                answer: Answer::Paused, // neither 2 nor 3 applies
             };
         }
         Control {
-            rec: rec,
+            rec,
             left: budget,
             answer: Answer::Impossible,
         }
     }
 
-    // One step.
+    // One step of a run. None is taken where an answer is known, the budget is used, or a length is wrong.
     pub fn step(self, memory: &mut [u8], registers: &mut [u64]) -> Control
-        ensures { λ c. ⌜ seen (length (now (memory .exit))) (num (now (memory .exit))) (now (registers .exit)) c ≡ turn (seen (length (now (memory .entry))) (num (now (memory .entry))) (now (registers .entry)) self) ⌝ }
+        ensures { λ c. ⌜ seenAt (now (memory .exit)) (now (registers .exit)) c ≡ turn (seenAt (now (memory .entry)) (now (registers .entry)) self) ⌝ }
     {
         let rec = self.rec;
         let left = self.left;
@@ -74,15 +73,15 @@ impl Control {
         let answer = self.answer;
         if left <= budget {
             return Outcome {
-                answer: answer, // as it stands
+                answer, // as the last step left it
                 steps: budget - left,
-                rec: rec,
+                rec,
             };
         }
         Outcome {
-            answer: answer,
+            answer,
             steps: 0,
-            rec: rec,
+            rec,
         }
     }
 }

@@ -1,8 +1,6 @@
 // The call for C hosts: the record is lent to the run and holds the new state afterwards.
 ghost use mathlib.Core.Path.{_≡_};
-ghost use lib.ListN.{length};
-ghost use Rattle.fields.specs.Bytes.{num};
-ghost use Rattle.runs.specs.Steps.{at};
+ghost use Rattle.runs.specs.Steps.{lentAt};
 ghost use Rattle.runs.specs.Calls.{run};
 ghost use Rattle.runs.specs.Hosts.{packed, lent, handed};
 use crate::answers::number;
@@ -28,7 +26,8 @@ pub extern "C" fn rawgunshet_run(
     rec: &mut Record,
     budget: u32,
 ) -> u64
-    ensures { λ r. ⌜ lent (at (length (now (memory .exit))) (num (now (memory .exit))) (now (registers .exit)) (now (rec .exit))) r ≡ handed (run budget (at (length (now (memory .entry))) (num (now (memory .entry))) (now (registers .entry)) (now (rec .entry)))) ⌝ }
+    ensures { λ r. ⌜ lent (lentAt (now (memory .exit)) (now (registers .exit)) (now (rec .exit))) r
+        ≡ handed (run budget (lentAt (now (memory .entry)) (now (registers .entry)) (now (rec .entry)))) ⌝ }
 {
     let out = run(memory, registers, *rec, budget);
     *rec = out.rec;

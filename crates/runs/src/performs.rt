@@ -3,15 +3,14 @@ ghost use mathlib.Core.Path.{_≡_};
 ghost use mathlib.Core.Bool.{true, false};
 ghost use Prim.Native.Nat.{_+_, _-_, _<_, _^_, min};
 ghost use lib.ListN.{length};
-ghost use Rattle.fields.specs.Bytes.{num};
 ghost use Rattle.instructions.specs.Fetch.{lengthOf};
 ghost use Rattle.instructions.specs.Instruction.{countOf};
-ghost use Rattle.runs.specs.Records.{halfDone};
-ghost use Rattle.runs.specs.Steps.{at, after};
+ghost use Rattle.runs.specs.Steps.{lentAt, after};
 ghost use Rattle.runs.specs.Calls.{lengthsRight, Sound};
-ghost use Rattle.runs.specs.Inner.{Performs, Goes, Bursts, oneStepAt};
+ghost use Rattle.runs.specs.Inner.{Goes, Bursts, Starts, Resumes, Performs, oneStepAt};
 use crate::answers::Answer;
-use crate::answers::of_number;
+use crate::answers::Said;
+use crate::answers::said_by;
 use crate::checks::half_done;
 use crate::records::Record;
 use crate::strides::Pace;
@@ -42,7 +41,7 @@ fn after(n: u64, word: u64, k: u64, p: u64, flags: u64) -> Record
     }
 }
 
-// The smaller of the two.
+// The smaller of two numbers.
 fn least(a: u64, b: u32) -> u32
     ensures { λ r. ⌜ r ≡ min a b ⌝ }
 {
@@ -75,15 +74,15 @@ pub fn burst(
 
 // The instruction at P, from its start, which is refused or goes by items. Every check comes before its first step.
 fn begin(memory: &mut [u8], registers: &[u64], rec: Record, most: u32) -> Performed
-    requires { ⌜ (0 < most) × (lengthsRight (length (now memory)) (length (now registers)) ≡ true) × (rec .mark ≡ 0) × (oneStepAt (at (length (now memory)) (num (now memory)) (now registers) rec) ≡ false) ⌝ }
-    ensures { λ r. ⌜ Performs (at (length (now (memory .entry))) (num (now (memory .entry))) (now (registers .entry)) rec) most (length (now (memory .exit))) (num (now (memory .exit))) (now (registers .exit)) r ⌝ }
+    requires { ⌜ Starts (lentAt (now memory) (now registers) rec) most × (oneStepAt (lentAt (now memory) (now registers) rec) ≡ false) ⌝ }
+    ensures { λ r. ⌜ Performs (lentAt (now (memory .entry)) (now (registers .entry)) rec) most (lentAt (now (memory .exit)) (now (registers .exit))) r ⌝ }
 {
     let p = rec.p;
     let word = fetch(&memory[..], p);
     let o = gather(word, registers);
-    let refused = verdict(p, word, o, memory.len() as u64);
-    if refused != 0 {
-        return Performed::Ended(of_number(refused));
+    let said = said_by(verdict(p, word, o, memory.len() as u64));
+    if let Said::Ends(a) = said {
+        return Performed::Ended(a);
     }
     if count(word, o) == 0 {
         return Performed::Did {
@@ -96,8 +95,8 @@ fn begin(memory: &mut [u8], registers: &[u64], rec: Record, most: u32) -> Perfor
 
 // From P on: instructions of one step each, as many as follow one another, or the one that goes by items.
 fn start(memory: &mut [u8], registers: &mut [u64], rec: Record, most: u32) -> Performed
-    requires { ⌜ (0 < most) × (lengthsRight (length (now memory)) (length (now registers)) ≡ true) × (rec .mark ≡ 0) ⌝ }
-    ensures { λ r. ⌜ Performs (at (length (now (memory .entry))) (num (now (memory .entry))) (now (registers .entry)) rec) most (length (now (memory .exit))) (num (now (memory .exit))) (now (registers .exit)) r ⌝ }
+    requires { ⌜ Starts (lentAt (now memory) (now registers) rec) most ⌝ }
+    ensures { λ r. ⌜ Performs (lentAt (now (memory .entry)) (now (registers .entry)) rec) most (lentAt (now (memory .exit)) (now (registers .exit))) r ⌝ }
 {
     let from = Pace {
         p: rec.p,
@@ -116,8 +115,8 @@ fn start(memory: &mut [u8], registers: &mut [u64], rec: Record, most: u32) -> Pe
 
 // What is half done goes on with the word that it holds. Nothing is fetched, and nothing judged again.
 fn go_on(memory: &mut [u8], registers: &[u64], rec: Record, most: u32) -> Performed
-    requires { ⌜ (0 < most) × (lengthsRight (length (now memory)) (length (now registers)) ≡ true) × (halfDone (length (now memory)) (now registers) rec ≡ true) ⌝ }
-    ensures { λ r. ⌜ Performs (at (length (now (memory .entry))) (num (now (memory .entry))) (now (registers .entry)) rec) most (length (now (memory .exit))) (num (now (memory .exit))) (now (registers .exit)) r ⌝ }
+    requires { ⌜ Resumes (lentAt (now memory) (now registers) rec) most ⌝ }
+    ensures { λ r. ⌜ Performs (lentAt (now (memory .entry)) (now (registers .entry)) rec) most (lentAt (now (memory .exit)) (now (registers .exit))) r ⌝ }
 {
     let word = rec.word;
     let done = rec.items;
@@ -127,19 +126,19 @@ fn go_on(memory: &mut [u8], registers: &[u64], rec: Record, most: u32) -> Perfor
 
 // At most `most` steps of one instruction, of a possible record.
 pub fn perform(memory: &mut [u8], registers: &mut [u64], rec: Record, most: u32) -> Performed
-    requires { ⌜ (0 < most) × Sound (at (length (now memory)) (num (now memory)) (now registers) rec) ⌝ }
-    ensures { λ r. ⌜ Performs (at (length (now (memory .entry))) (num (now (memory .entry))) (now (registers .entry)) rec) most (length (now (memory .exit))) (num (now (memory .exit))) (now (registers .exit)) r ⌝ }
+    requires { ⌜ (0 < most) × Sound (lentAt (now memory) (now registers) rec) ⌝ }
+    ensures { λ r. ⌜ Performs (lentAt (now (memory .entry)) (now (registers .entry)) rec) most (lentAt (now (memory .exit)) (now (registers .exit))) r ⌝ }
 {
-    if rec.mark == 0 { // nothing is half done
+    if rec.mark == 0 { // between two instructions: the word at P is fetched
         return start(memory, registers, rec, most);
     }
     go_on(memory, &registers[..], rec, most)
 }
 
-// One step, of any record.
+// One step of any record; one that is marked and not half done ends the run with refusal 3.
 pub fn perform_one(memory: &mut [u8], registers: &mut [u64], rec: Record) -> Performed
     requires { ⌜ lengthsRight (length (now memory)) (length (now registers)) ≡ true ⌝ }
-    ensures { λ r. ⌜ Performs (at (length (now (memory .entry))) (num (now (memory .entry))) (now (registers .entry)) rec) 1 (length (now (memory .exit))) (num (now (memory .exit))) (now (registers .exit)) r ⌝ }
+    ensures { λ r. ⌜ Performs (lentAt (now (memory .entry)) (now (registers .entry)) rec) 1 (lentAt (now (memory .exit)) (now (registers .exit))) r ⌝ }
 {
     if rec.mark == 0 {
         return start(memory, registers, rec, 1);

@@ -13,29 +13,29 @@ pub struct Record {
 }
 
 impl Record {
-    // k items of the word at p are done, and not all.
+    // The record where k items of the word at p are done, and not all.
     pub fn half(p: u64, word: u64, k: u64, flags: u64) -> Record
         ensures { λ r. ⌜ r ≡ half p word k flags ⌝ }
     {
         Record {
-            p: p,
+            p,
             mark: 1,
-            word: word,
+            word,
             items: k,
-            flags: flags,
+            flags,
         }
     }
 
-    // Between two instructions, at p.
+    // The record between two instructions, at p.
     pub fn between(p: u64, flags: u64) -> Record
         ensures { λ r. ⌜ r ≡ between p flags ⌝ }
     {
         Record {
-            p: p,
+            p,
             mark: 0,
             word: 0,
             items: 0,
-            flags: flags,
+            flags,
         }
     }
 }

@@ -2,9 +2,8 @@
 ghost use mathlib.Core.Path.{_≡_};
 ghost use mathlib.Core.Bool.{true};
 ghost use lib.ListN.{length};
-ghost use Rattle.fields.specs.Bytes.{num};
 ghost use Rattle.runs.specs.Calls.{lengthsRight};
-ghost use Rattle.runs.specs.Inner.{strideAt, Strode};
+ghost use Rattle.runs.specs.Inner.{Strode};
 use crate::typed::fetch;
 use crate::typed::one_step;
 use instructions::instruction::act;
@@ -20,7 +19,7 @@ pub struct Pace {
 // Steps until none is left, or the instruction at P is refused or goes by items.
 pub fn stride(start: Pace, memory: &mut [u8], registers: &mut [u64]) -> Pace
     requires { ⌜ lengthsRight (length (now memory)) (length (now registers)) ≡ true ⌝ }
-    ensures { λ s. ⌜ Strode (strideAt (length (now (memory .entry))) (num (now (memory .entry))) (now (registers .entry)) start) (start .left) (strideAt (length (now (memory .exit))) (num (now (memory .exit))) (now (registers .exit)) s) (s .left) ⌝ }
+    ensures { λ s. ⌜ Strode (now (memory .entry)) (now (registers .entry)) start (now (memory .exit)) (now (registers .exit)) s ⌝ }
 {
     let mut s = start;
     while 0 < s.left {

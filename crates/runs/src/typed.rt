@@ -16,7 +16,7 @@ pub fn fetch(memory: &[u8], p: u64) -> u64
     instructions::fetch::fetch(memory, BitAddress(p))
 }
 
-// What refuses it, or 0.
+// The number of the check that refuses a word at P, or 0.
 pub fn verdict(p: u64, word: u64, o: Operands, bytes: u64) -> u64
     ensures { λ r. ⌜ r ≡ verdictOf p word o bytes ⌝ }
 {
@@ -30,7 +30,7 @@ pub fn may_work(p: u64, word: u64, o: Operands, bytes: u64) -> bool
     instructions::verdict::may_work(BitAddress(p), word, o, ByteCount(bytes))
 }
 
-// How far P moves past it.
+// How far P moves past a word.
 pub fn length_of(word: u64) -> u64
     ensures { λ r. ⌜ r ≡ lengthOf word ⌝ }
 {

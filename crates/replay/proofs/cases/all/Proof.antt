@@ -1,4 +1,4 @@
--- Case after case: the space and the registers keep their lengths, and the count of cases has an end. Assumes nothing.
+-- Case after case: the space and the registers keep their lengths, and the count of cases has an end.
 use native.Mathlib.Omega.{arith}
 use Prim.Native.Nat.{_-_, _≤_}
 use mathlib.Core.Path.{_≡_}

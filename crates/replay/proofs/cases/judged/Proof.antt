@@ -1,4 +1,4 @@
--- What the bounds leave is at most what the space and the registers hold. Assumes nothing.
+-- What the bounds leave is at most what the space and the registers hold.
 use native.Mathlib.Omega.{arith}
 use mathlib.Core.Path.{sym}
 use lib.Seq.{length-take-le}

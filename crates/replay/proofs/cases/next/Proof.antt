@@ -1,4 +1,4 @@
--- The header is the first 72 bytes of the space. Assumes nothing.
+-- The header is the first 72 bytes of the space.
 use native.Mathlib.Omega.{arith}
 use mathlib.Core.Path.{sym}
 use lib.Seq.{length-take-le}

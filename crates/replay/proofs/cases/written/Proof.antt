@@ -1,4 +1,4 @@
--- The result is the first bytes of the space. Assumes nothing.
+-- The result is the first bytes of the space.
 use native.Mathlib.Omega.{arith}
 use mathlib.Core.Path.{sym}
 use lib.Seq.{length-take-le}

@@ -1,4 +1,4 @@
--- `replay::parts::goes_on` meets its contract. Assumes nothing.
+-- `replay::parts::goes_on` meets its contract.
 use mathlib.Core.Path.{sym, _∙_}
 use borrow.Author.Needs.{needs}
 use Rattle.replay.proofs.parts.goes_on.Statement.{statement}

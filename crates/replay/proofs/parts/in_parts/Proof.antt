@@ -1,11 +1,10 @@
--- Each turn makes one call more: what the calls came to stays what one call of as many steps comes to. Assumes nothing.
+-- Each turn makes one call more: what the calls came to stays what one call of as many steps comes to.
 use native.Mathlib.Omega.{arith}
 use mathlib.Core.Path.{_≡_, refl, sym, _∙_, ap}
 use Prim.Native.Nat.{ℕ, _+_, _-_, _≤_, _<_}
 use lib.ListN.{length}
-use Rattle.fields.specs.Bytes.{num}
-use Rattle.runs.specs.Steps.{State}
-use Rattle.runs.specs.Calls.{called, run}
+use Rattle.runs.specs.Steps.{State, at, lentAt}
+use Rattle.runs.specs.Calls.{leaves, run}
 use Rattle.replay.proofs.Parting.{goes, further, over, steps-of}
 use Rattle.replay.proofs.parts.in_parts.Statement.{statement}
 use Rattle.replay.proofs.parts.in_parts.Tie as tie
@@ -15,7 +14,7 @@ Inv-loop memory₀ registers₀ budget part first left₀ sum₀ memory register
     (length memory ≡ length memory₀)
     × ((length registers ≡ length registers₀)
     × ((left ≤ left₀)
-    × ((j : ℕ) (s : State) → called (length memory₀) (num memory₀) registers₀ sum₀ ≡ run j s → called (length memory) (num memory) registers sum ≡ run (j + (left₀ - left)) s)))
+    × ((j : ℕ) (s : State) → leaves (lentAt memory₀ registers₀) sum₀ ≡ run j s → leaves (lentAt memory registers) sum ≡ run (j + (left₀ - left)) s)))
 
 abbrev μ-loop : tie.MeasureT-loop
 μ-loop memory₀ registers₀ budget part first left₀ sum₀ memory registers left sum = left
@@ -86,7 +85,7 @@ loop-again c =
         (
           omega (arith, l .inv .1 .1 .0),
           λ j s e.
-              ap (called _ _ _) (c .together .ensures)
+              ap (leaves (at _ _ _)) (c .together .ensures)
               ∙ further (j + (left₀ - l .left)) s _ _ _ (l .sum) (l .inv .1 .1 .1 j s e) k _ _ _ _ _ some (all j) (run-at .run2 .ensures),
         ),
       ),

@@ -1,4 +1,4 @@
--- Zeros, byte after byte. Assumes nothing.
+-- Zeros, byte after byte.
 use native.Mathlib.Omega.{arith}
 use Prim.Native.Nat.{_-_, _≤_}
 use mathlib.Core.Path.{_≡_}

@@ -1,4 +1,4 @@
--- The registers from their places, one after another. Assumes nothing.
+-- The registers from their places, one after another.
 use native.Mathlib.Omega.{arith}
 use Prim.Native.Nat.{_+_, _*_, _-_, _≤_}
 use mathlib.Core.Path.{_≡_}

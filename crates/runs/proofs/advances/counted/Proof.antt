@@ -1,4 +1,4 @@
--- `runs::advances::counted` meets its contract. Assumes nothing.
+-- `runs::advances::counted` meets its contract.
 use borrow.Author.Needs.{needs}
 use Rattle.runs.proofs.Turning.{within-of}
 use Rattle.runs.proofs.advances.counted.Statement.{statement}

@@ -1,4 +1,4 @@
--- `runs::advances::may_go` meets its contract. Assumes nothing.
+-- `runs::advances::may_go` meets its contract.
 use mathlib.Core.Path.{sym, _∙_}
 use borrow.Author.Needs.{needs}
 use Rattle.runs.proofs.advances.may_go.Statement.{statement}

@@ -1,4 +1,4 @@
--- `runs::advances::take_up` meets its contract. Assumes nothing.
+-- `runs::advances::take_up` meets its contract.
 use borrow.Author.Needs.{needs}
 use Rattle.runs.proofs.Turning.{taken-begun}
 use Rattle.runs.proofs.advances.take_up.Statement.{statement}
@@ -14,7 +14,7 @@ same-length : tie.Need-same-length
 same-length c = search needs
 
 returns : tie.Need-returns
-returns c = rw (c .counted .ensures) (c .before .before .before .pick-up .ensures .1)
+returns c = rw (c .counted .ensures) (c .before .before .before .pick-up .ensures .taken)
 
 begin-requires : tie.Need-begin-requires
 begin-requires c κs = search needs
@@ -23,7 +23,7 @@ same-length-2 : tie.Need-same-length-2
 same-length-2 c = search needs
 
 returns-2 : tie.Need-returns-2
-returns-2 c = taken-begun _ _ _ _ _ _ (c .begin .ensures)
+returns-2 c = taken-begun _ _ _ (c .begin .ensures)
 
 pub take-up-spec : {M : Type 1} → statement M
 take-up-spec =

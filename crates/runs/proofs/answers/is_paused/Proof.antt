@@ -1,4 +1,4 @@
--- `runs::answers::is_paused` meets its contract. Assumes nothing.
+-- `runs::answers::is_paused` meets its contract.
 use borrow.Author.Needs.{needs}
 use Rattle.runs.proofs.answers.is_paused.Statement.{statement}
 use Rattle.runs.proofs.answers.is_paused.Tie as tie

@@ -1,4 +1,4 @@
--- `runs::calls::run` meets its contract. Assumes nothing.
+-- `runs::calls::run` meets its contract.
 use borrow.Author.Needs.{needs}
 use Rattle.runs.proofs.Turning.{taken-ends}
 use Rattle.runs.proofs.calls.run.Statement.{statement}
@@ -20,9 +20,10 @@ same-length-2 : tie.Need-same-length-2
 same-length-2 c = search needs
 
 returns : tie.Need-returns
-returns c = rw (c .finish .ensures) (taken-ends _ _ _ _ _ _ _ _ _ _ _ _ _ (c .before .before .before .before .before .before .before .before .before .before .take-up .ensures) (c .before .before .before .before .before .go .ensures))
+returns c =
+    let g = c .before .before .before .before .before in
+    let t = g .before .before .before .before .before in
+    rw (c .finish .ensures) (taken-ends _ _ _ _ (t .take-up .ensures) (g .go .ensures))
 
 pub run-spec : {M : Type 1} → statement M
-run-spec =
-    tie.close
-    (tie.spec take-up-requires go-requires finish-requires same-length same-length-2 returns)
+run-spec = tie.close (tie.spec take-up-requires go-requires finish-requires same-length same-length-2 returns)

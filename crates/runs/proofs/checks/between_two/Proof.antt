@@ -1,4 +1,4 @@
--- `runs::checks::between_two` meets its contract. Assumes nothing.
+-- `runs::checks::between_two` meets its contract.
 use borrow.Author.Tests.{eq-eqb, ne-eqb}
 use Rattle.runs.specs.Records.{betweenTwo}
 use Rattle.runs.proofs.checks.between_two.Statement.{statement}

@@ -1,4 +1,4 @@
--- `runs::checks::flags_right` meets its contract. Assumes nothing.
+-- `runs::checks::flags_right` meets its contract.
 use mathlib.Core.Path.{refl}
 use Rattle.runs.specs.Records.{flagsRight}
 use Rattle.runs.proofs.checks.flags_right.Statement.{statement}

@@ -1,4 +1,4 @@
--- `runs::checks::goes_on` meets its contract. Assumes nothing.
+-- `runs::checks::goes_on` meets its contract.
 use mathlib.Core.Path.{sym}
 use borrow.Author.Needs.{needs}
 use borrow.Author.Tests.{not-true, not-false}
@@ -11,21 +11,32 @@ place-right-requires c κs = search needs
 
 returns : tie.Need-returns
 unfolding goesOn
-returns c = simp (sym (c .before .place-right .ensures), not-true (c .before .place-right .result) (c .if1 .taken))
+returns c =
+    let p = c .before .place-right in
+    simp (sym (p .ensures), not-true (p .result) (c .if1 .taken))
 
 flags-right-requires : tie.Need-flags-right-requires
 flags-right-requires c κs = search needs
 
 returns-2 : tie.Need-returns-2
 unfolding goesOn
-returns-2 c = simp (sym (c .before .before .before .place-right .ensures), not-false (c .before .before .before .place-right .result) (c .before .before .if1 .left), sym (c .before .flags-right .ensures), not-true (c .before .flags-right .result) (c .if2 .taken))
+returns-2 c =
+    let f = c .before .flags-right in
+    let e = c .before .before in
+    let p = e .before .place-right in
+    simp (sym (p .ensures), not-false (p .result) (e .if1 .left), sym (f .ensures), not-true (f .result) (c .if2 .taken))
 
 holding-requires : tie.Need-holding-requires
 holding-requires c κs = search needs
 
 returns-3 : tie.Need-returns-3
 unfolding goesOn
-returns-3 c = simp (sym (c .before .before .before .before .place-right .ensures), not-false (c .before .before .before .before .place-right .result) (c .before .before .before .if1 .left), sym (c .before .before .flags-right .ensures), not-false (c .before .before .flags-right .result) (c .before .if2 .left), sym (c .holding .ensures))
+returns-3 c =
+    let e₂ = c .before in
+    let f = e₂ .before .flags-right in
+    let e₁ = e₂ .before .before in
+    let p = e₁ .before .place-right in
+    simp (sym (p .ensures), not-false (p .result) (e₁ .if1 .left), sym (f .ensures), not-false (f .result) (e₂ .if2 .left), sym (c .holding .ensures))
 
 pub goes-on-spec : {M : Type 1} → statement M
 goes-on-spec =

@@ -1,4 +1,4 @@
--- `runs::checks::half_done` meets its contract. Assumes nothing.
+-- `runs::checks::half_done` meets its contract.
 use borrow.Author.Needs.{needs}
 use borrow.Author.Tests.{eq-eqb, ne-eqb}
 use Rattle.runs.specs.Records.{halfDone}

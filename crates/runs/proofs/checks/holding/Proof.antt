@@ -1,44 +1,57 @@
--- `runs::checks::holding` meets its contract. Assumes nothing.
-use mathlib.Core.Path.{sym, _∙_}
+-- `runs::checks::holding` meets its contract.
+use mathlib.Core.Path.{_≡_, refl, sym, _∙_}
+use mathlib.Core.Bool.{Bool, true, false, _&&_}
+use Prim.Native.Nat.{ℕ}
+use lib.Dec.{eqb, leb, ltb}
 use borrow.Author.Needs.{needs}
-use borrow.Author.Tests.{le-leb, lt-leb, eq-eqb, ne-eqb, not-true, not-false}
+use borrow.Author.Tests.{le-leb, lt-leb, not-true, not-false}
+use Rattle.instructions.specs.declared.operands.Operands.{Operands}
+use Rattle.instructions.specs.Instruction.{byItems, mayWork, countOf}
+use Rattle.instructions.specs.Verdict.{verdictOf}
+use Rattle.runs.specs.declared.records.Record.{Record}
 use Rattle.runs.specs.Inner.{holding}
 use Rattle.runs.proofs.checks.holding.Statement.{statement}
 use Rattle.runs.proofs.checks.holding.Tie as tie
 
-by-items-requires : tie.Need-by-items-requires
-by-items-requires c κs = search needs
+and-assoc : (a b c : Bool) → (a && b) && c ≡ a && (b && c)
+and-assoc true b c = refl
+and-assoc false b c = refl
+
+-- the code's order: what may work, then the items
+in-order : (bytes : ℕ) (o : Operands) (r : Record) → mayWork (r .p) (r .word) o bytes && (leb 1 (r .items) && ltb (r .items) (countOf (r .word) o)) ≡ holding bytes o r
+unfolding holding mayWork
+in-order bytes o r = and-assoc (byItems (r .word)) (eqb (verdictOf (r .p) (r .word) o bytes) 0) _
+
+may-work-requires : tie.Need-may-work-requires
+may-work-requires c κs = search needs
 
 returns : tie.Need-returns
-unfolding holding
-returns c = simp (sym (c .before .by-items .ensures) ∙ not-true (c .before .by-items .result) (c .if1 .taken))
-
-verdict-requires : tie.Need-verdict-requires
-verdict-requires c κs = search needs
+returns c =
+    let b = c .before .may-work in
+    rw (← in-order) (simp (sym (b .ensures) ∙ not-true (b .result) (c .if1 .taken)))
 
 returns-2 : tie.Need-returns-2
-unfolding holding
-returns-2 c = simp (sym (c .before .before .before .by-items .ensures) ∙ not-false (c .before .before .before .by-items .result) (c .before .before .if1 .left), sym (c .before .verdict .ensures), ne-eqb _ _ (c .if2 .taken))
-
-returns-3 : tie.Need-returns-3
-unfolding holding
-returns-3 c = simp (sym (c .before .before .before .before .before .by-items .ensures) ∙ not-false (c .before .before .before .before .before .by-items .result) (c .before .before .before .before .if1 .left), sym (c .before .before .before .verdict .ensures), eq-eqb _ _ (c .before .before .if2 .left), lt-leb _ _ (c .if3 .taken))
+returns-2 c =
+    let e = c .before .before in
+    let b = e .before .may-work in
+    rw (← in-order) (simp (sym (b .ensures) ∙ not-false (b .result) (e .if1 .left), lt-leb _ _ (c .if2 .taken)))
 
 count-requires : tie.Need-count-requires
 count-requires c κs = search needs
 
-returns-4 : tie.Need-returns-4
-unfolding holding
-returns-4 c = simp (sym (c .before .before .before .before .before .before .before .by-items .ensures) ∙ not-false (c .before .before .before .before .before .before .before .by-items .result) (c .before .before .before .before .before .before .if1 .left), sym (c .before .before .before .before .before .verdict .ensures), eq-eqb _ _ (c .before .before .before .before .if2 .left), le-leb _ _ (c .before .before .if3 .left), sym (c .before .count .ensures))
+returns-3 : tie.Need-returns-3
+returns-3 c =
+    let e₂ = c .before .before in
+    let e₁ = e₂ .before .before in
+    let b = e₁ .before .may-work in
+    rw (← in-order) (simp (sym (b .ensures) ∙ not-false (b .result) (e₁ .if1 .left), le-leb _ _ (e₂ .if2 .left), sym (c .before .count .ensures)))
 
 pub holding-spec : {M : Type 1} → statement M
 holding-spec =
     tie.close
     (tie.spec
-    by-items-requires
+    may-work-requires
     returns
-    verdict-requires
     returns-2
-    returns-3
     count-requires
-    returns-4)
+    returns-3)

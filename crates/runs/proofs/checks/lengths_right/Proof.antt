@@ -1,4 +1,4 @@
--- `runs::checks::lengths_right` meets its contract. Assumes nothing.
+-- `runs::checks::lengths_right` meets its contract.
 use mathlib.Core.Path.{sym, _∙_}
 use borrow.Author.Needs.{needs}
 use Rattle.runs.specs.Calls.{lengthsRight}

@@ -1,4 +1,4 @@
--- `runs::checks::place_right` meets its contract. Assumes nothing.
+-- `runs::checks::place_right` meets its contract.
 use borrow.Author.Tests.{lt-ltb, le-ltb}
 use Rattle.runs.specs.Records.{placeRight}
 use Rattle.runs.proofs.checks.place_right.Statement.{statement}

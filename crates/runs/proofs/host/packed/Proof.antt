@@ -1,9 +1,9 @@
--- `runs::host::packed` meets its contract: an answer's number is 11 or less, so it and the steps fit. Assumes nothing.
+-- `runs::host::packed` meets its contract: an answer's number has 32 bits, so it and the steps fit.
 use native.Mathlib.Omega.{arith}
-use Prim.Native.Nat.{_≤_}
+use Prim.Native.Nat.{_<_, _^_}
 use borrow.Author.Needs.{needs}
 use Rattle.runs.specs.Hosts.{packed}
-use Rattle.runs.proofs.Lending.{number-most}
+use Rattle.runs.proofs.Numbered.{number-fits}
 use Rattle.runs.proofs.host.packed.Statement.{statement}
 use Rattle.runs.proofs.host.packed.Tie as tie
 
@@ -15,12 +15,12 @@ number-requires c κs = search needs
 
 mul-result : tie.Need-mul-result
 mul-result c =
-    let most : c .number .result ≤ 11 = rw (c .number .ensures) (number-most (c .before .before .args .out .answer)) in
+    let most : c .number .result < 2 ^ 32 = rw (c .number .ensures) (number-fits (c .before .before .args .out .answer)) in
     omega (arith, most)
 
 add-result : tie.Need-add-result
 add-result c =
-    let most : c .number .result ≤ 11 = rw (c .number .ensures) (number-most (c .before .before .args .out .answer)) in
+    let most : c .number .result < 2 ^ 32 = rw (c .number .ensures) (number-fits (c .before .before .args .out .answer)) in
     omega (arith, most, c .before .struct-known .given)
 
 returns : tie.Need-returns

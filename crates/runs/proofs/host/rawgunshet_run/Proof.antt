@@ -3,7 +3,6 @@
 -- needed after the call, go to `run` at their own lifetimes, shares and ghost names (`gave-slice`); the next record is stored over the cell, the outcome goes
 -- to `packed`,
 -- and the borrow is closed at that record. All that the proof knows of `run` and of `packed` is that each meets its contract.
--- Assumes nothing.
 use mathlib.Core.Path.{_≡_, refl, ap}
 use Prim.Native.Nat.{ℕ, _<_, _^_}
 use mathlib.Core.List.{[], _∷_, List}
@@ -21,11 +20,11 @@ use ghost.Atoms.{Atoms, sem}
 use contract.Monad.{Fun, fact}
 use contract.Running.{givenOf, tables, tablesOf}
 use contract.Lifetimes.{AllOutlive}
-use types.Kit.{Given, ‵, raw, some, later, _⊛_, ⋆, _$_, _∵_, !, qed, by, move, keep, drop, use1, use2, use3, split, join, pick, rewrite, fsplit, fsplit3}
+use types.Kit.{Given, ‵, raw, some, later, _⊛_, ⋆, _$_, _∵_, !, qed, by, move, keep, drop, use1, use3, split, join, pick, rewrite, fsplit, fsplit3}
 use types.Kit.{fjoin, fjoin3, feqL, feqI, suffices, frame, await, done}
 use types.Run.{look, look-raw, init, store-raw, forget, stop, hop, fld, from, load, addr, of-opd, and-then, no-more, assigns, land, returns, enter}
 use types.Run.{alloc1, alloc0, params1, pass1, pass0, free1, free0}
-use types.Part.{agg, whole, sub, look-in, store-in}
+use types.Part.{agg, whole, sub, look-in}
 use types.SemTy.{Body}
 use sound.WpLaws.{FmC, fmOf, WpFn-mono}
 use denote.RattleType.{owns}
@@ -47,10 +46,9 @@ use denote.Triple.Table.{entered, cited}
 use denote.Triple.Walked.{says, Stays, stay-ref, stay-none, gave-slice, walkOf, goes-ref, goes-none, goes-gave-slice, Walks, ends-at, walked, walk-meets}
 use denote.Exit.{yes}
 use denote.Signature.{plain}
-use Rattle.fields.specs.Bytes.{num}
 use Rattle.runs.specs.declared.records.Record.{Record}
 use Rattle.runs.specs.declared.calls.Outcome.{Outcome}
-use Rattle.runs.specs.Steps.{at}
+use Rattle.runs.specs.Steps.{lentAt}
 use Rattle.runs.specs.Calls as calls
 use Rattle.runs.specs.Hosts as hosts
 use Rattle.runs.proofs.Lending.{lent-is}
@@ -154,7 +152,7 @@ module _ {M : Type 1} (𝓤 : URA M) (H : Heap 𝓤) (A : Atoms 𝓤) (W : Given
 
   -- what `run` ensures
   abbrev Ran : Outcome → List ℕ → List ℕ → Type 0
-  Ran r zs ws = calls.called (length zs) (num zs) ws r ≡ calls.run n (at (length m) (num m) rs h)
+  Ran r zs ws = calls.leaves (lentAt zs ws) r ≡ calls.run n (lentAt m rs h)
 
   exits : (r : Outcome) (zs ws : List ℕ) (x : ℕ) (v : Val) → Ran r zs ws → x ≡ hosts.packed (r .answer) (r .steps) → length zs ≡ length m → length ws ≡ length rs
       → ent 𝓤 (⋆ 𝓤 H A (‵ (fobs γ (T.the-row .coded .code (r .rec))) ∷ ‵ (fbor κ₂ (Body (mem T.the-row) b o γ)) ∷ ‵ (flft κ₂ q₂) ∷ ‵ (u64 .own x (v ∷ [])) ∷
@@ -164,7 +162,7 @@ module _ {M : Type 1} (𝓤 : URA M) (H : Heap 𝓤) (A : Atoms 𝓤) (W : Given
       (‵ (flft κ₀ q₀) ⊛ ‵ (flft κ₁ q₁) ⊛ ‵ ftrue) ∷ ‵ (finally u64 γ₁ ws) ∷ ‵ (finally u8 γ₀ zs) ∷ []) ∵
       suffices ! _ (ends-at 𝓤 H A lent.ended stayed (lent.clauses 𝓤 H A at-mem run) W (((κ₀, (κ₁, (κ₂, tt))), (q₀, (q₁, (q₂, tt))), bounds, a, vals), tt) v x
       (zs, (ws, (r .rec, (tt, tt)))) (l₀, (l₁, (tt, (tt, tt))))) $
-      says ! (lent-is _ _ _ r x _ e p) $
+      says ! (lent-is zs ws r x _ e p) $
       -- the tokens
       move ! (4 ∷ []) $ split ! $ move ! (1 ∷ []) $ split ! $ move ! (5 ∷ 1 ∷ []) $ join ! $ move ! (1 ∷ 0 ∷ []) $ join ! $ move ! (1 ∷ 0 ∷ []) $ join ! $ frame ! $
       -- [obs; the borrow; what the result owns; the registers' last list; memory's last list]

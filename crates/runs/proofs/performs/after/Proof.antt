@@ -1,4 +1,4 @@
--- `runs::performs::after` meets its contract. Assumes nothing.
+-- `runs::performs::after` meets its contract.
 use borrow.Author.Needs.{needs}
 use borrow.Author.Tests.{lt-ltb, le-ltb}
 use Rattle.runs.specs.Steps.{after}

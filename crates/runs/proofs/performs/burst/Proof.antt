@@ -1,4 +1,4 @@
--- `runs::performs::burst` meets its contract. Assumes nothing.
+-- `runs::performs::burst` meets its contract.
 use borrow.Author.Needs.{needs}
 use Rattle.runs.proofs.Performing.{goes-past, burst-of}
 use Rattle.runs.proofs.performs.burst.Statement.{statement}
@@ -29,7 +29,10 @@ same-length : tie.Need-same-length
 same-length c = search needs
 
 returns : tie.Need-returns
-returns c = burst-of _ _ _ _ _ _ _ _ _ _ _ (c .before .before .before .before .before .before .count .ensures) (c .before .before .before .before .before .least .ensures) (c .before .before .before .work .ensures .0) (c .before .before .before .work .ensures .1) (c .after .ensures)
+returns c =
+    let w = c .before .before .before in
+    let l = w .before .before in
+    burst-of _ _ _ _ _ _ _ _ _ _ _ (l .before .count .ensures) (l .least .ensures) (w .work .ensures .0) (w .work .ensures .1) (c .after .ensures)
 
 pub burst-spec : {M : Type 1} → statement M
 burst-spec =

@@ -1,11 +1,13 @@
--- `runs::performs::perform` meets its contract. Assumes nothing.
+-- `runs::performs::perform` meets its contract.
 use borrow.Author.Needs.{needs}
 use Rattle.runs.proofs.Soundness.{possible-marked}
 use Rattle.runs.proofs.performs.perform.Statement.{statement}
 use Rattle.runs.proofs.performs.perform.Tie as tie
 
 start-requires : tie.Need-start-requires
-start-requires c κs = (c .before .before .before .before .before .before .pre .0, c .before .before .before .before .before .before .pre .1 .lengths, c .before .before .if1 .taken)
+start-requires c κs =
+    let s = c .before .before .before .before .before .before in
+    record { some = s .pre .0; lengths = s .pre .1 .lengths; unmarked = c .before .before .if1 .taken }
 
 same-length : tie.Need-same-length
 same-length c = search needs
@@ -17,7 +19,9 @@ returns : tie.Need-returns
 returns c = search needs
 
 go-on-requires : tie.Need-go-on-requires
-go-on-requires c κs = (c .before .before .before .before .before .before .pre .0, c .before .before .before .before .before .before .pre .1 .lengths, possible-marked _ _ _ (c .before .before .before .before .before .before .pre .1 .can) (c .before .before .if1 .left))
+go-on-requires c κs =
+    let s = c .before .before .before .before .before .before in
+    record { some = s .pre .0; lengths = s .pre .1 .lengths; half-way = possible-marked _ _ _ (s .pre .1 .can) (c .before .before .if1 .left) }
 
 same-length-3 : tie.Need-same-length-3
 same-length-3 c = search needs

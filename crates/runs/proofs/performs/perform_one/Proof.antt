@@ -1,4 +1,4 @@
--- `runs::performs::perform_one` meets its contract. Assumes nothing.
+-- `runs::performs::perform_one` meets its contract.
 use mathlib.Core.Path.{refl, sym, _∙_}
 use native.Mathlib.Omega.{arith}
 use borrow.Author.Needs.{needs}
@@ -8,7 +8,8 @@ use Rattle.runs.proofs.performs.perform_one.Statement.{statement}
 use Rattle.runs.proofs.performs.perform_one.Tie as tie
 
 start-requires : tie.Need-start-requires
-start-requires c κs = search needs
+start-requires c κs =
+    record { some = omega arith; lengths = c .before .before .before .before .before .before .pre; unmarked = c .before .before .if1 .taken }
 
 same-length : tie.Need-same-length
 same-length c = search needs
@@ -23,7 +24,13 @@ half-done-requires : tie.Need-half-done-requires
 half-done-requires c κs = lengths-of _ _ (c .before .before .before .before .before .pre) .1
 
 go-on-requires : tie.Need-go-on-requires
-go-on-requires c κs = (omega arith, c .before .before .before .before .before .before .before .before .before .pre, sym (c .before .before .before .half-done .ensures) ∙ c .before .before .if2 .taken)
+go-on-requires c κs =
+    let h = c .before .before .before in
+    record {
+      some = omega arith;
+      lengths = h .before .before .before .before .before .before .pre;
+      half-way = sym (h .half-done .ensures) ∙ c .before .before .if2 .taken;
+    }
 
 same-length-3 : tie.Need-same-length-3
 same-length-3 c = search needs
@@ -38,7 +45,7 @@ same-length-5 : tie.Need-same-length-5
 same-length-5 c = search needs
 
 returns-3 : tie.Need-returns-3
-returns-3 c = (step-impossible _ (c .before .before .before .if1 .left) (sym (c .before .half-done .ensures) ∙ c .if2 .left), (refl, (refl, refl)))
+returns-3 c = (step-impossible _ (c .before .before .before .if1 .left) (sym (c .before .half-done .ensures) ∙ c .if2 .left), refl)
 
 pub perform-one-spec : {M : Type 1} → statement M
 perform-one-spec =

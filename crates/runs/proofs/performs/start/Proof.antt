@@ -1,6 +1,6 @@
--- `runs::performs::start` meets its contract. Assumes nothing.
+-- `runs::performs::start` meets its contract.
 use borrow.Author.Needs.{needs}
-use Rattle.runs.proofs.Striding.{performs-strode, same-lengths, performs-same, other-way}
+use Rattle.runs.proofs.Striding.{performs-strode, starts-same, performs-same, other-way}
 use Rattle.runs.proofs.performs.start.Statement.{statement}
 use Rattle.runs.proofs.performs.start.Tie as tie
 
@@ -20,10 +20,19 @@ same-length-2 : tie.Need-same-length-2
 same-length-2 c = search needs
 
 returns : tie.Need-returns
-returns c = performs-strode _ _ _ (c .before .before .before .before .before .before .before .before .before .before .before .before .before .args .rec) (c .before .before .before .before .before .before .before .before .before .before .before .before .before .args .most) (c .before .before .before .before .before .before .before .before .before .before .before .before .before .pre .2) _ _ _ _ _ _ (c .before .before .before .before .before .before .before .before .stride .ensures) (c .before .before .if1 .taken) _ (c .before .between .ensures)
+returns c =
+    let t = c .before .before .before .before .before .before .before .before in
+    let s = t .before .before .before .before .before in
+    performs-strode _ _ (s .args .rec) (s .args .most) (s .pre .unmarked) _ _ _ (t .stride .ensures) (c .before .before .if1 .taken) _ (c .before .between .ensures)
 
 begin-requires : tie.Need-begin-requires
-begin-requires c κs = (c .before .before .before .before .before .before .before .before .before .before .before .before .before .pre .0, same-lengths _ _ _ (c .before .before .before .before .before .before .before .before .before .before .before .before .before .args .rec) _ _ _ _ _ (c .before .before .before .before .before .before .before .before .before .before .before .before .before .args .most) _ (c .before .before .before .before .before .before .before .before .stride .ensures) (c .before .before .if1 .left) (c .before .before .before .before .before .before .before .before .before .before .before .before .before .pre .1), c .before .before .before .before .before .before .before .before .before .before .before .before .before .pre .2, other-way _ _ _ (c .before .before .before .before .before .before .before .before .before .before .before .before .before .args .rec) _ _ _ _ _ (c .before .before .before .before .before .before .before .before .before .before .before .before .before .args .most) _ (c .before .before .before .before .before .before .before .before .stride .ensures) (c .before .before .if1 .left) (c .before .before .before .before .before .before .before .before .before .before .before .before .before .pre .0))
+begin-requires c κs =
+    let t = c .before .before .before .before .before .before .before .before in
+    let s = t .before .before .before .before .before in
+    let none = c .before .before .if1 .left in (
+      starts-same _ _ (s .args .rec) (s .args .most) _ _ _ (t .stride .ensures) none (s .pre),
+      other-way _ _ (s .args .rec) (s .args .most) _ _ _ (t .stride .ensures) none (s .pre .some),
+    )
 
 same-length-3 : tie.Need-same-length-3
 same-length-3 c = search needs
@@ -32,7 +41,12 @@ same-length-4 : tie.Need-same-length-4
 same-length-4 c = search needs
 
 returns-2 : tie.Need-returns-2
-returns-2 c = performs-same _ _ _ (c .before .before .before .before .before .before .before .before .before .before .before .before .before .before .before .before .args .rec) _ _ _ _ _ (c .before .before .before .before .before .before .before .before .before .before .before .before .before .before .before .before .args .most) _ (c .before .before .before .before .before .before .before .before .before .before .before .stride .ensures) (c .before .before .before .before .before .if1 .left) _ _ _ (c .before .before .begin .result) (c .before .before .begin .ensures)
+returns-2 c =
+    let b = c .before .before in
+    let none = b .before .before .before .if1 .left in
+    let t = b .before .before .before .before .before .before .before .before .before in
+    let s = t .before .before .before .before .before in
+    performs-same _ _ (s .args .rec) (s .args .most) _ _ _ (t .stride .ensures) none _ (b .begin .result) (b .begin .ensures)
 
 pub start-spec : {M : Type 1} → statement M
 start-spec =

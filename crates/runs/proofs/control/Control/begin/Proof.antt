@@ -1,4 +1,4 @@
--- `runs::control::Control::begin` meets its contract. Assumes nothing.
+-- `runs::control::Control::begin` meets its contract.
 use mathlib.Core.Path.{sym, _∙_}
 use borrow.Author.Needs.{needs}
 use borrow.Author.Tests.{not-true, not-false}
@@ -12,18 +12,28 @@ lengths-right-requires c κs = search needs
 
 returns : tie.Need-returns
 unfolding beginning
-returns c = simp (sym (c .before .lengths-right .ensures), not-true (c .before .lengths-right .result) (c .if1 .taken))
+returns c =
+    let l = c .before .lengths-right in
+    simp (sym (l .ensures), not-true (l .result) (c .if1 .taken))
 
 possible-requires : tie.Need-possible-requires
-possible-requires c κs = lengths-of _ _ (sym (c .before .lengths-right .ensures) ∙ not-false (c .before .lengths-right .result) (c .if1 .left)) .1
+possible-requires c κs =
+    let l = c .before .lengths-right in
+    lengths-of _ _ (sym (l .ensures) ∙ not-false (l .result) (c .if1 .left)) .1
 
 returns-2 : tie.Need-returns-2
 unfolding beginning
-returns-2 c = simp (sym (c .before .before .before .lengths-right .ensures), not-false (c .before .before .before .lengths-right .result) (c .before .before .if1 .left), sym (c .before .possible .ensures), c .if2 .taken)
+returns-2 c =
+    let e = c .before .before in
+    let l = e .before .lengths-right in
+    simp (sym (l .ensures), not-false (l .result) (e .if1 .left), sym (c .before .possible .ensures), c .if2 .taken)
 
 returns-3 : tie.Need-returns-3
 unfolding beginning
-returns-3 c = simp (sym (c .before .before .before .lengths-right .ensures), not-false (c .before .before .before .lengths-right .result) (c .before .before .if1 .left), sym (c .before .possible .ensures), c .if2 .left)
+returns-3 c =
+    let e = c .before .before in
+    let l = e .before .lengths-right in
+    simp (sym (l .ensures), not-false (l .result) (e .if1 .left), sym (c .before .possible .ensures), c .if2 .left)
 
 pub begin-spec : {M : Type 1} → statement M
 begin-spec =

@@ -1,4 +1,4 @@
--- `runs::control::Control::finish` meets its contract. Assumes nothing.
+-- `runs::control::Control::finish` meets its contract.
 use mathlib.Core.Path.{_≡_, refl}
 use Prim.Native.Nat.{_-_}
 use native.Mathlib.Omega.{arith}

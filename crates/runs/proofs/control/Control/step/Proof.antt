@@ -1,4 +1,4 @@
--- `runs::control::Control::step` meets its contract. Assumes nothing.
+-- `runs::control::Control::step` meets its contract.
 use mathlib.Core.Path.{sym, _∙_}
 use borrow.Author.Needs.{needs}
 use borrow.Author.Tests.{not-true, not-false}
@@ -23,10 +23,14 @@ returns-3 : tie.Need-returns-3
 returns-3 c = turn-wrong _ (sym (c .before .lengths-right .ensures) ∙ not-true (c .before .lengths-right .result) (c .if3 .taken))
 
 perform-one-requires : tie.Need-perform-one-requires
-perform-one-requires c κs = sym (c .before .before .before .lengths-right .ensures) ∙ not-false (c .before .before .before .lengths-right .result) (c .before .before .if3 .left)
+perform-one-requires c κs =
+    let l = c .before .before .before .lengths-right in
+    sym (l .ensures) ∙ not-false (l .result) (c .before .before .if3 .left)
 
 counted-requires : tie.Need-counted-requires
-counted-requires c κs = performs-within _ 1 _ _ _ _ (c .before .before .before .before .perform-one .result) (ne-pos _ (c .before .before .before .before .before .before .before .before .before .if2 .left)) (c .before .before .before .before .perform-one .ensures)
+counted-requires c κs =
+    let p = c .before .before .before .before in
+    performs-within _ 1 _ _ (p .perform-one .result) (ne-pos _ (p .before .before .before .before .before .if2 .left)) (p .perform-one .ensures)
 
 same-length : tie.Need-same-length
 same-length c = search needs
@@ -35,7 +39,16 @@ same-length-2 : tie.Need-same-length-2
 same-length-2 c = search needs
 
 returns-4 : tie.Need-returns-4
-returns-4 c = rw (c .counted .ensures) (turn-counted _ _ _ _ (c .before .before .before .before .before .perform-one .result) (sym (c .before .before .before .before .before .before .before .before .before .before .before .before .is-paused .ensures) ∙ not-false (c .before .before .before .before .before .before .before .before .before .before .before .before .is-paused .result) (c .before .before .before .before .before .before .before .before .before .before .before .if1 .left)) (ne-pos _ (c .before .before .before .before .before .before .before .before .before .before .if2 .left)) (sym (c .before .before .before .before .before .before .before .before .before .lengths-right .ensures) ∙ not-false (c .before .before .before .before .before .before .before .before .before .lengths-right .result) (c .before .before .before .before .before .before .before .before .if3 .left)) (c .before .before .before .before .before .perform-one .ensures))
+returns-4 c =
+    let p = c .before .before .before .before .before in
+    let e₃ = p .before .before .before in
+    let l = e₃ .before .lengths-right in
+    let e₂ = e₃ .before .before in
+    let e₁ = e₂ .before in
+    let h = e₁ .before .is-paused in
+    rw (c .counted .ensures)
+    (turn-counted _ _ _ _ (p .perform-one .result) (sym (h .ensures) ∙ not-false (h .result) (e₁ .if1 .left)) (ne-pos _ (e₂ .if2 .left))
+    (sym (l .ensures) ∙ not-false (l .result) (e₃ .if3 .left)) (p .perform-one .ensures))
 
 pub step-spec : {M : Type 1} → statement M
 step-spec =
