@@ -63,8 +63,8 @@ registers-spared (Byte a u) registers v h = refl
 registers-spared (Word a u) registers v h = refl
 
 -- what an instruction has done, with v in register 00
-abbrev pub with00 : ℕ → Done → Done
-with00 v d = done (d .memory) (set (d .registers) 0 v) (d .p) (d .flags)
+abbrev pub done00 : ℕ → Done → Done
+done00 v d = done (d .memory) (set (d .registers) 0 v) (d .p) (d .flags)
 
 -- a designator that 7 has let pass is not 00, and a half word neither 00 nor 01
 let-pass : (m t : ℕ) → m ≡ 0xFF → (not (eqb m 0) && eqb (bitAnd t m) 0) ≡ false → t ≡ 0 → ⊥
@@ -121,7 +121,7 @@ module _ (p w : ℕ) (o : Operands) (bytes : ℕ) (passes : verdictOf p w o byte
       go (none h e) = rw e tt
 
   pub acts-spared : (memory : ℕ) (registers : List ℕ) (flags v : ℕ)
-      → actsOf p w o bytes memory (set registers 0 v) flags ≡ with00 v (actsOf p w o bytes memory registers flags)
+      → actsOf p w o bytes memory (set registers 0 v) flags ≡ done00 v (actsOf p w o bytes memory registers flags)
   unfolding actsOf
   acts-spared memory registers flags v =
       let d = actsOf p w o bytes memory registers flags in

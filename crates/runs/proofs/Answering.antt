@@ -36,6 +36,14 @@ says-0 n s c (not-possible p q e) h = absurd (omega (arith, rw e at h))
 says-0 n s c (all-used t ok e is) h = (ok, (rw is, rw is e))
 says-0 n s c (stopped i t a ok low e q is) h = absurd (later (numberOf a) (ends-checked t a (strides-sound i s t ok e) q) .not-0 (rw is at h))
 
+-- one of the numbers
+pub says-any : (n : ℕ) (s : State) (c : Call) → Ran n s c
+    → (numberOf (c .answer) ≡ 0) ⊎ ((numberOf (c .answer) ≡ 2) ⊎ ((numberOf (c .answer) ≡ 3) ⊎ OfChecks (numberOf (c .answer))))
+says-any n s c (lengths-wrong p e) = inr (inl (rw e))
+says-any n s c (not-possible p q e) = inr (inr (inl (rw e)))
+says-any n s c (all-used t ok e is) = inl (rw is)
+says-any n s c (stopped i t a ok low e q is) = inr (inr (inr (rw is (ends-checked t a (strides-sound i s t ok e) q))))
+
 -- 2 and 3
 pub says-2 : (n : ℕ) (s : State) (c : Call) → Ran n s c → numberOf (c .answer) ≡ 2 → lengthsRight (s .bytes) (length (s .registers)) ≡ false
 says-2 n s c (lengths-wrong p e) h = p

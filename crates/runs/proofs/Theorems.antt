@@ -38,7 +38,7 @@ use Rattle.runs.proofs.Bursting.{holds-of, burst-half, burst-done}
 use Rattle.runs.proofs.Performing.{step-acted}
 use Rattle.runs.proofs.Iterating.{no-stride, one-stride}
 use Rattle.runs.proofs.Ending.{lengths-wrong, not-possible, all-used, stopped, run-of, ran, run-split}
-use Rattle.runs.proofs.Answering.{stays, taken, says-0, says-2, says-3, nothing-changed, says-checked, checked-says}
+use Rattle.runs.proofs.Answering.{stays, taken, says-0, says-any, says-2, says-3, nothing-changed, says-checked, checked-says}
 use Rattle.runs.proofs.Lending.{packed-number, packed-steps, steps-most}
 use Rattle.runs.proofs.Starts.{blank, nothing-lent, blank-pauses, nothing-refused, adding, added, transmitting, exiting, computed}
 use Rattle.runs.proofs.Stepping.{stepping}
@@ -49,12 +49,12 @@ use Rattle.runs.proofs.Keeping.{flags-run, run-00, same-00-run}
 
 -- The reported steps are those finished in this call: so many lead from the state at its start to the one that it leaves, from every start. With 0 they are the
 -- whole budget. (`anywhere`, below, counts them by items and instructions.)
-pub record Pauses (n : ℕ) (s : State) : Type 0 where
+pub record StepsTaken (n : ℕ) (s : State) : Type 0 where
   pub finished : strides (run n s .steps) s ≡ next (run n s .state)
   pub whole-budget : numberOf (run n s .answer) ≡ 0 → run n s .steps ≡ n
 
-pub pauses : (n : ℕ) (s : State) → Pauses n s
-pauses n s = record { finished = taken n s (run n s) (ran n s); whole-budget = λ h. says-0 n s (run n s) (ran n s) h .1 .0 }
+pub steps-taken : (n : ℕ) (s : State) → StepsTaken n s
+steps-taken n s = record { finished = taken n s (run n s) (ran n s); whole-budget = λ h. says-0 n s (run n s) (ran n s) h .1 .0 }
 
 -- ---- 2. REFUSED CHANGES NOTHING (demand 1)
 
@@ -102,6 +102,11 @@ exactly-when n s = record {
   where
     number : Call → ℕ
     number c = numberOf (c .answer)
+
+-- Every call says one of these numbers.
+pub says-one : (n : ℕ) (s : State)
+    → (numberOf (run n s .answer) ≡ 0) ⊎ ((numberOf (run n s .answer) ≡ 2) ⊎ ((numberOf (run n s .answer) ≡ 3) ⊎ OfChecks (numberOf (run n s .answer))))
+says-one n s = says-any n s (run n s) (ran n s)
 
 -- And this is the verdict exactly when the check of that number refuses the word at P and none before it does, in the order of `checks` (instructions,
 -- specs/Verdict), where each stands with 01's "When"; no check refuses it exactly when the verdict is 0.
@@ -172,7 +177,7 @@ does-all s ok m passes is = run-of (stepsOf s) s _ (all-used (allItems s) ok (st
 
 -- From a start between two instructions, wherever nothing is half done, the state is the one that some number of whole instructions lead to.
 pub whole-instructions : (n : ℕ) (s : State) → Sound s → s .rec .mark ≡ 0 → run n s .state .rec .mark ≡ 0 → (i : ℕ) × (wholes i s ≡ next (run n s .state))
-whole-instructions n s ok m h = go (run n s .state) (steps-reach (run n s .steps) s (run n s .state) ok m (pauses n s .finished)) h
+whole-instructions n s ok m h = go (run n s .state) (steps-reach (run n s .steps) s (run n s .state) ok m (steps-taken n s .finished)) h
   where
     go : (t : State) → Reached s (run n s .steps) t → t .rec .mark ≡ 0 → (i : ℕ) × (wholes i s ≡ next t)
     go t (whole i e _ _) h = (i, e)
@@ -220,7 +225,7 @@ half-done s k ok h = run-of k s _ (all-used (cutAt k s) ok (steps-cut s k ok h) 
 -- Wherever a call stops that began between two instructions, the state is the one that whole instructions lead to, or they and the first k items of the next
 -- one, and the reported steps are the instructions' steps and those items. The record then holds that word as it was fetched, whatever memory holds at P.
 pub anywhere : (n : ℕ) (s : State) → Sound s → s .rec .mark ≡ 0 → Reached s (run n s .steps) (run n s .state)
-anywhere n s ok m = steps-reach (run n s .steps) s (run n s .state) ok m (pauses n s .finished)
+anywhere n s ok m = steps-reach (run n s .steps) s (run n s .state) ok m (steps-taken n s .finished)
 
 -- A call that goes on with what is half done, for j of the items that are left, works those of the word that the record holds, whatever memory holds at P, and
 -- is paused. Short of the last item the record holds the same P and word, and j items more; after the last one nothing is half done, and P is past the word.
@@ -250,7 +255,7 @@ goes-on s j ok marked some few = record {
 
 -- A record that a call hands back is possible with the registers and the memory that it hands back, wherever neither 2 nor 3 was said.
 pub possible-again : (n : ℕ) (s : State) → Sound s → Sound (run n s .state)
-possible-again n s ok = strides-sound (run n s .steps) s (run n s .state) ok (pauses n s .finished)
+possible-again n s ok = strides-sound (run n s .steps) s (run n s .state) ok (steps-taken n s .finished)
 
 -- ---- 12. STEP BY STEP (demand 3)
 
