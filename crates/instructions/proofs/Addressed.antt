@@ -8,6 +8,7 @@ use lib.ListN.{length}
 use Rattle.fields.specs.Bytes.{num}
 use Rattle.fields.specs.declared.units.BitAddress.{BitAddress}
 use Rattle.fields.specs.Field.{field, store}
+use Rattle.fields.specs.declared.extents.Unit.the-variants as unit
 use Rattle.fields.specs.Memory.{fieldAt}
 use Rattle.fields.specs.Units.{inBits, formed}
 use Rattle.instructions.specs.declared.operands.Operands.{Operands}
@@ -16,11 +17,11 @@ use Rattle.instructions.specs.declared.effects.Effect.{Effect}
 use Rattle.instructions.specs.declared.effects.Effect.the-variants.{Register}
 use Rattle.instructions.specs.declared.effects.Next.{Next}
 use Rattle.instructions.specs.declared.effects.Next.the-variants.{Following, Target}
-use Rattle.instructions.specs.Operands.{codeIn, gBit}
+use Rattle.instructions.specs.Operands.{codeIn, gBit, addressIn}
 use Rattle.instructions.specs.Branches.{comparesBy, branchSum, takenOf, targetOf, branchOf}
 use Rattle.instructions.specs.Meanings.{plain}
 use Rattle.instructions.specs.Table.{meaningOf}
-use Rattle.instructions.specs.Scalars.{toRegister, loadByteOf, byteAt, loadWordOf, wordAt}
+use Rattle.instructions.specs.Scalars.{toRegister, loadByteOf, loadWordOf}
 
 -- the address n items after a, of a unit that is shifted left k
 pub index-is : (a n k : ℕ) {r : BitAddress} {b : ℕ} → r .0 ≡ formed a b → b ≡ inBits k n → r ≡ record { 0 = formed a (inBits k n) }
@@ -34,10 +35,10 @@ right-byte x = omega arith
 cleared : (v : ℕ) → store 64 56 8 v 0 ≡ v
 cleared v = omega arith
 
-pub loaded : (o : Operands) (m : List ℕ) {r : Outcome} {a : BitAddress} {t v : ℕ} → a ≡ byteAt o → v ≡ fieldAt m (a .0) 8 → r ≡ toRegister t (plain v) → r ≡ loadByteOf t o (length m) (num m)
-loaded o m {t = t} q h e = e ∙ ap (λ (x : ℕ). toRegister t (plain x)) (h ∙ ap (λ (b : BitAddress). fieldAt m (b .0) 8) q ∙ sym (cleared (fieldAt m (byteAt o .0) 8)))
+pub loaded : (o : Operands) (m : List ℕ) {r : Outcome} {a : BitAddress} {t v : ℕ} → a ≡ addressIn unit.Byte o → v ≡ fieldAt m (a .0) 8 → r ≡ toRegister t (plain v) → r ≡ loadByteOf t o (length m) (num m)
+loaded o m {t = t} q h e = e ∙ ap (λ (x : ℕ). toRegister t (plain x)) (h ∙ ap (λ (b : BitAddress). fieldAt m (b .0) 8) q ∙ sym (cleared (fieldAt m (addressIn unit.Byte o .0) 8)))
 
-pub loaded-word : (o : Operands) (m : List ℕ) {r : Outcome} {a : BitAddress} {t v : ℕ} → a ≡ wordAt o → v ≡ fieldAt m (a .0) 64 → r ≡ toRegister t (plain v) → r ≡ loadWordOf t o (length m) (num m)
+pub loaded-word : (o : Operands) (m : List ℕ) {r : Outcome} {a : BitAddress} {t v : ℕ} → a ≡ addressIn unit.Word o → v ≡ fieldAt m (a .0) 64 → r ≡ toRegister t (plain v) → r ≡ loadWordOf t o (length m) (num m)
 loaded-word o m {t = t} q h e = e ∙ ap (λ (x : ℕ). toRegister t (plain x)) (h ∙ ap (λ (b : BitAddress). fieldAt m (b .0) 64) q)
 
 -- a branch, taken or not

@@ -11,7 +11,7 @@ use lib.Pow.{pow-pos}
 use Rattle.fields.specs.Field.{field, store, Apart, sideBySide}
 use Rattle.fields.proofs.Places.{field-lt}
 use Rattle.fields.proofs.Turns.{inTurn, Same, Looks, look-apart, look-same, at-once, untouched, done, to-come}
-use Rattle.instructions.specs.Items.{Place, bits, fixed, Shape, valueAt, storedAt, madeAt, itemAt, flagsAt, Worked, worked, turn, turns, flagsTogether, whole}
+use Rattle.instructions.specs.Items.{Place, bits, fixed, Shape, valueAt, storedAt, madeAt, itemAt, flagsAt, MemoryAndFlags, worked, turn, turns, flagsTogether, whole}
 
 -- n bits of item i come from a place that no earlier item of the result spoils: apart from the whole result, or item i itself
 abbrev pub Clear : ℕ → ℕ → ℕ → ℕ → ℕ → ℕ → Place → Type 0
@@ -73,14 +73,14 @@ item-lt s L i x =
     below false p q = q
 
 -- the memory of the items in turn is fields' inTurn
-pub turns-memory : (s : Shape) (L k : ℕ) (w : Worked) → turns s L 0 k w .memory ≡ inTurn L (s .result) (s .width) (itemAt s L) k (w .memory)
+pub turns-memory : (s : Shape) (L k : ℕ) (w : MemoryAndFlags) → turns s L 0 k w .memory ≡ inTurn L (s .result) (s .width) (itemAt s L) k (w .memory)
 turns-memory s L zero w = refl
 turns-memory s L (suc k) w =
     let e : 0 + k ≡ k = omega arith in
     rw e (ap (λ (x : ℕ). store L (s .result + k * s .width) (s .width) (itemAt s L k x) x) (turns-memory s L k w))
 
 -- a pause changes nothing
-pub resume : (s : Shape) (L a j k : ℕ) (w : Worked) → turns s L (a + j) k (turns s L a j w) ≡ turns s L a (j + k) w
+pub resume : (s : Shape) (L a j k : ℕ) (w : MemoryAndFlags) → turns s L (a + j) k (turns s L a j w) ≡ turns s L a (j + k) w
 resume s L a j zero w =
     let e : j + 0 ≡ j = omega arith in
     rw e
@@ -89,12 +89,12 @@ resume s L a j (suc k) w =
     let e' : (a + j) + k ≡ a + (j + k) = omega arith in
     rw (e, e') (ap (turn s L (a + (j + k))) (resume s L a j k w))
 
-module _ (L : ℕ) (s : Shape) (count : ℕ) (h : Sound L s count) (w : Worked) where
+module _ (L : ℕ) (s : Shape) (count : ℕ) (h : Sound L s count) (w : MemoryAndFlags) where
   -- after k items the first k are done, from the memory at the start, and nothing else; the flags are those of the first k
   pub agree : (k : ℕ) → k ≤ count → turns s L 0 k w ≡ whole s L k w
   agree k le = both (turns s L 0 k w) _ _ (mem k le) (fl k le)
     where
-      both : (v : Worked) (x f : ℕ) → v .memory ≡ x → v .flags ≡ f → v ≡ worked x f
+      both : (v : MemoryAndFlags) (x f : ℕ) → v .memory ≡ x → v .flags ≡ f → v ≡ worked x f
       both v x f p q = ap₂ worked p q
 
       mem : (k : ℕ) → k ≤ count → turns s L 0 k w .memory ≡ whole s L k w .memory

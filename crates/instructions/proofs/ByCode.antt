@@ -12,15 +12,15 @@ use Rattle.instructions.specs.declared.operands.Operands.{Operands}
 use Rattle.instructions.specs.declared.effects.Outcome.{Outcome}
 use Rattle.instructions.specs.declared.effects.Effect.the-variants.{Nothing}
 use Rattle.instructions.specs.declared.items.Made.{Made}
-use Rattle.instructions.specs.Loops.{makesBy, widthBy, makesAt, widthAt}
+use Rattle.instructions.specs.Private.Loops.{makesBy, widthBy, makesAt, widthAt}
 use Rattle.instructions.specs.Meanings.{plain, ofWord, ofHalf, gathers, eachOfAB, eachOfA, halfOfA, moves, Meaning, unlisted, exits, acts, branches, works}
 use Rattle.instructions.specs.Table.{Line, table, meaningOf}
 use Rattle.instructions.specs.Operands.{codeIn}
-use Rattle.instructions.specs.Effects.{goesOn}
+use Rattle.instructions.specs.Effects.{fallsThrough}
 use Rattle.instructions.specs.Branches.{comparesBy, branchOf}
 use Rattle.instructions.specs.Scalars.{toRegister, toHalfRegister, outcomeIn, scalarOf}
-use Rattle.instructions.specs.Accepted.{ReachedBy, Reached}
-use Rattle.instructions.specs.Inner.{Past}
+use Rattle.instructions.specs.Private.Accepted.{AddressThereBy, AddressThere}
+use Rattle.instructions.specs.Private.Inner.{Past}
 use Rattle.instructions.proofs.Conjunctions.{and-first, and-rest}
 use Rattle.instructions.proofs.VerdictTests.{never}
 use Rattle.instructions.proofs.TablePlaces.{every, meansIn, Looked, has, none, looked, those, other}
@@ -62,7 +62,7 @@ far l k e t h = go (comparing (l .means)) t
         absurd (⊎-elim (λ p. omega arith) (λ p. omega arith) h)
 
 module _ (w : ℕ) (o : Operands) (bytes x : ℕ) where
-  no-outcome : (m : Meaning) → acting m ≡ false → comparing m ≡ false → goesOn Nothing 0 ≡ outcomeIn m w o bytes x
+  no-outcome : (m : Meaning) → acting m ≡ false → comparing m ≡ false → fallsThrough Nothing 0 ≡ outcomeIn m w o bytes x
   no-outcome unlisted e f = refl
   no-outcome exits e f = refl
   no-outcome (acts a) e f = never e
@@ -70,10 +70,10 @@ module _ (w : ℕ) (o : Operands) (bytes x : ℕ) where
   no-outcome (works k) e f = refl
 
   none-comes : (k : ℕ) → ((l : Line) → l .code ≡ k → ((g : Line → Bool) → T (every g table) → T (g l)) → (acting (l .means) ≡ false) × (comparing (l .means) ≡ false))
-      → goesOn Nothing 0 ≡ outcomeIn (meaningOf k) w o bytes x
+      → fallsThrough Nothing 0 ≡ outcomeIn (meaningOf k) w o bytes x
   none-comes k h = go (looked k)
     where
-      go : Looked k → goesOn Nothing 0 ≡ outcomeIn (meaningOf k) w o bytes x
+      go : Looked k → fallsThrough Nothing 0 ≡ outcomeIn (meaningOf k) w o bytes x
       go (has l c t f m) = let q = h l c t in rw m (no-outcome (l .means) (q .0) (q .1))
       go (none f m) = rw m
 
@@ -97,7 +97,7 @@ module _ (w : ℕ) (o : Operands) (bytes x : ℕ) where
         go (suc (suc (suc (suc (suc (suc i)))))) l = absurd (omega arith)
 
     -- any other
-    pub nothing : Past (λ (l : Line). l .code) (Unit {0}) (those (λ l. acting (l .means)) table) k → (k < 0xB0) ⊎ (0xB6 ≤ k) → r ≡ goesOn Nothing 0 → r ≡ scalarOf w o bytes x
+    pub nothing : Past (λ (l : Line). l .code) (Unit {0}) (those (λ l. acting (l .means)) table) k → (k < 0xB0) ⊎ (0xB6 ≤ k) → r ≡ fallsThrough Nothing 0 → r ≡ scalarOf w o bytes x
     unfolding scalarOf
     nothing p q h =
         h
@@ -105,9 +105,9 @@ module _ (w : ℕ) (o : Operands) (bytes x : ℕ) where
         ∙ ap (λ (i : ℕ). outcomeIn (meaningOf i) w o bytes x) code
 
 -- the address of a load that passes
-pub reached-at : (w : ℕ) (o : Operands) (m : List ℕ) (k : ℕ) → codeIn w ≡ k → Reached w o m → ReachedBy (meansIn k table) o m
-unfolding Reached meaningOf
-reached-at w o m k e h = subst (λ (j : ℕ). ReachedBy (meansIn j table) o m) e h
+pub reached-at : (w : ℕ) (o : Operands) (m : List ℕ) (k : ℕ) → codeIn w ≡ k → AddressThere w o m → AddressThereBy (meansIn k table) o m
+unfolding AddressThere meaningOf
+reached-at w o m k e h = subst (λ (j : ℕ). AddressThereBy (meansIn j table) o m) e h
 
 -- ---- what goes to T, by T's number and what was made
 

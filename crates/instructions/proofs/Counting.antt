@@ -14,15 +14,14 @@ use Rattle.instructions.specs.declared.items.VectorPlan.{VectorPlan}
 use Rattle.instructions.specs.declared.table.Found.{Found}
 use Rattle.instructions.specs.Meanings.{gathers, eachOfAB, eachOfA, halfOfA, moves, Meaning, unlisted, exits, acts, branches, works, goesByItems}
 use Rattle.instructions.specs.Table.{Line, table, rowOf, namedOf, zeroBits, meaningOf}
-use Rattle.instructions.specs.Operands.{codeIn, foundIn, rowSays, meaningIn}
+use Rattle.instructions.specs.Operands.{codeIn, foundIn, rowSays, meaningIn, lengthIn}
 use Rattle.instructions.specs.Words.{notZero, missing, missingAt}
-use Rattle.instructions.specs.Layout.{lengthIn}
-use Rattle.instructions.specs.Verdict.{checks, case, verdictOf}
+use Rattle.instructions.specs.Verdict.{checks, caseOf, verdictOf}
 use Rattle.instructions.specs.Plan.{Plan, vectors, itemsOf}
 use Rattle.instructions.specs.Planned.{vectorIn, planIn}
 use Rattle.instructions.specs.Instruction.{byItems, planOf, countOf}
-use Rattle.instructions.specs.Inner.{Past}
-use Rattle.instructions.specs.Loops.{lanesFor, makesBy, widthBy, singleBy, makesAt, widthAt, singleAt, Suited}
+use Rattle.instructions.specs.Private.Inner.{Past}
+use Rattle.instructions.specs.Private.Loops.{lanesFor, makesBy, widthBy, singleBy, makesAt, widthAt, singleAt, Suited}
 use Rattle.instructions.proofs.Conjunctions.{and-first, and-rest}
 use Rattle.instructions.proofs.VerdictTests.{never, both-false}
 use Rattle.instructions.proofs.VerdictOrder.{Passes, end, next, verdict-none}
@@ -137,7 +136,7 @@ second-as : (p w : ℕ) (o : Operands) (n : ℕ) → verdictOf p w o n ≡ 0 →
 unfolding every
 second-as p w o n passes = go (looked (codeIn w)) (verdict-none p w o n .0 passes)
   where
-    go : Looked (codeIn w) → Passes (case p w o n) checks → Ruled w (meaningIn w)
+    go : Looked (codeIn w) → Passes (caseOf p w o n) checks → Ruled w (meaningIn w)
     go (none e m) q = rw m ((λ h. never (sym h)), (λ h. never (sym h)))
     go (has l c t e m) (next _ (next _ (next z (next y _)))) = rw m (line-ruled w l (t secondRule tt) (rw e at z) (rw e at y))
 

@@ -19,7 +19,7 @@ use Rattle.instructions.specs.declared.table.Row.{Row}
 use Rattle.instructions.specs.declared.table.Found.{Found}
 use Rattle.instructions.specs.Operands.{codeIn, foundIn, rowSays}
 use Rattle.instructions.specs.Table.{codeOf, formatOf, long, found}
-use Rattle.instructions.specs.Fetch.{longIn, placeOf, there, wordAt, fetchOf, unfetchedAt}
+use Rattle.instructions.specs.Fetch.{longIn, halfWordsAt, there, twoHalvesAt, fetchOf, unfetchedAt}
 use Rattle.instructions.proofs.TablePlaces.{every}
 use Rattle.instructions.proofs.TableRules.{row-passes, found-code}
 use Rattle.instructions.proofs.VerdictTests.{both-true, both-false}
@@ -46,24 +46,24 @@ pub short-word : (w : ℕ) → w < 0x8000_0000_0000_0000 → false ≡ longIn w
 short-word w low = short-code w (let z : w / 2 ^ 56 % 2 ^ 8 < 0x80 = omega arith in z)
 
 module _ (p h n : ℕ) (some : 0 < h) (few : h ≤ 2) where
-  bits : placeOf p h .bits .0 ≡ h * 32
+  bits : halfWordsAt p h .bits .0 ≡ h * 32
   bits = all-bits HalfWord (record { 0 = p }) h (omega arith)
 
   pub there-ends : there p h n ≡ true → (0x4000 ≤ p) × ((p + 32 * h ≤ 0x4000 + 8 * n) × (p % 32 ≡ 0))
   unfolding there
   there-ends e =
-      let b : placeOf p h .bits .0 ≡ h * 32 = bits in
-      let t : (aligned (placeOf p h) ≡ true) × (inside (placeOf p h) n ≡ true) = both-true _ _ e in
-      let m : Multiple 32 p = aligned-multiple (placeOf p h) (omega arith) .0 (t .0) in
-      let i : (0x4000 ≤ p) × (p + placeOf p h .bits .0 ≤ 0x4000 + 8 * n) = inside-ends (placeOf p h) n (omega arith) (t .1) in
+      let b : halfWordsAt p h .bits .0 ≡ h * 32 = bits in
+      let t : (aligned (halfWordsAt p h) ≡ true) × (inside (halfWordsAt p h) n ≡ true) = both-true _ _ e in
+      let m : Multiple 32 p = aligned-multiple (halfWordsAt p h) (omega arith) .0 (t .0) in
+      let i : (0x4000 ≤ p) × (p + halfWordsAt p h .bits .0 ≤ 0x4000 + 8 * n) = inside-ends (halfWordsAt p h) n (omega arith) (t .1) in
       omega arith
 
   there-from : 0x4000 ≤ p → p + 32 * h ≤ 0x4000 + 8 * n → p % 32 ≡ 0 → there p h n ≡ true
   unfolding there
   there-from l u w =
-      let b : placeOf p h .bits .0 ≡ h * 32 = bits in
-      rw (aligned-multiple (placeOf p h) (omega arith) .1 (record { times = p / 32; whole = omega arith }))
-      (inside-every (placeOf p h) n .1 (λ x i. omega arith))
+      let b : halfWordsAt p h .bits .0 ≡ h * 32 = bits in
+      rw (aligned-multiple (halfWordsAt p h) (omega arith) .1 (record { times = p / 32; whole = omega arith }))
+      (inside-every (halfWordsAt p h) n .1 (λ x i. omega arith))
 
   -- as the code asks it: in bytes, of which a start that is a multiple of 32 has a whole number before it
   pub there-is : (b : Bool) → (b ≡ true → (0x4000 ≤ p) × (((p - 0x4000) / 8 + h * 4 ≤ n) × (p % 32 ≡ 0))) → (b ≡ false → 0x4000 ≤ p → p % 32 ≡ 0 → n < (p - 0x4000) / 8 + h * 4) → b ≡ there p h n
@@ -113,13 +113,13 @@ same-code x = omega arith
 
 module _ (m : List ℕ) (p : ℕ) where
   -- the left half says how long the word is
-  same-length : longIn (fetchOf (length m) (num m) p) ≡ longIn (wordAt (length m) (num m) p)
+  same-length : longIn (fetchOf (length m) (num m) p) ≡ longIn (twoHalvesAt (length m) (num m) p)
   unfolding fetchOf longIn
-  same-length = go (longIn (wordAt (length m) (num m) p))
+  same-length = go (longIn (twoHalvesAt (length m) (num m) p))
     where
-      go : (b : Bool) → rowSays false (λ r. long (formatOf r)) (foundIn (cond b (wordAt (length m) (num m) p) (wordAt (length m) (num m) p / 2 ^ 32 * 2 ^ 32))) ≡ rowSays false (λ r. long (formatOf r)) (foundIn (wordAt (length m) (num m) p))
+      go : (b : Bool) → rowSays false (λ r. long (formatOf r)) (foundIn (cond b (twoHalvesAt (length m) (num m) p) (twoHalvesAt (length m) (num m) p / 2 ^ 32 * 2 ^ 32))) ≡ rowSays false (λ r. long (formatOf r)) (foundIn (twoHalvesAt (length m) (num m) p))
       go true = refl
-      go false = ap (λ (k : ℕ). rowSays false (λ r. long (formatOf r)) (found k)) (same-code (wordAt (length m) (num m) p))
+      go false = ap (λ (k : ℕ). rowSays false (λ r. long (formatOf r)) (found k)) (same-code (twoHalvesAt (length m) (num m) p))
 
   left-of-word : there p 2 (length m) ≡ true → fieldAt m p 64 / 2 ^ 32 ≡ fieldAt m p 32
   left-of-word e =
@@ -128,23 +128,23 @@ module _ (m : List ℕ) (p : ℕ) where
       let l : field (size m) (p - origin + 32) 32 (num m) < 2 ^ 32 = field-lt (size m) (p - origin + 32) 32 (num m) in
       omega arith
 
-  left-of-there : there p 1 (length m) ≡ true → wordAt (length m) (num m) p / 2 ^ 32 ≡ fieldAt m p 32
-  unfolding wordAt
+  left-of-there : there p 1 (length m) ≡ true → twoHalvesAt (length m) (num m) p / 2 ^ 32 ≡ fieldAt m p 32
+  unfolding twoHalvesAt
   left-of-there e = go (there p 2 (length m)) refl
     where
       go : (b : Bool) → there p 2 (length m) ≡ b → cond b (fieldAt m p 64) (cond (there p 1 (length m)) (fieldAt m p 32 * 2 ^ 32) 0) / 2 ^ 32 ≡ fieldAt m p 32
       go true t = left-of-word t
       go false t = rw e (omega arith)
 
-  whole-there : there p 2 (length m) ≡ true → wordAt (length m) (num m) p ≡ fieldAt m p 64
-  unfolding wordAt
+  whole-there : there p 2 (length m) ≡ true → twoHalvesAt (length m) (num m) p ≡ fieldAt m p 64
+  unfolding twoHalvesAt
   whole-there e = rw e
 
-  fetched-as : (b : Bool) → longIn (wordAt (length m) (num m) p) ≡ b → fetchOf (length m) (num m) p ≡ cond b (wordAt (length m) (num m) p) (wordAt (length m) (num m) p / 2 ^ 32 * 2 ^ 32)
+  fetched-as : (b : Bool) → longIn (twoHalvesAt (length m) (num m) p) ≡ b → fetchOf (length m) (num m) p ≡ cond b (twoHalvesAt (length m) (num m) p) (twoHalvesAt (length m) (num m) p / 2 ^ 32 * 2 ^ 32)
   unfolding fetchOf
-  fetched-as b e = ap (λ (t : Bool). cond t (wordAt (length m) (num m) p) (wordAt (length m) (num m) p / 2 ^ 32 * 2 ^ 32)) e
+  fetched-as b e = ap (λ (t : Bool). cond t (twoHalvesAt (length m) (num m) p) (twoHalvesAt (length m) (num m) p / 2 ^ 32 * 2 ^ 32)) e
 
-  at-length : (b : Bool) → longIn (wordAt (length m) (num m) p) ≡ b → unfetchedAt p b (length m) ≡ false → fetchOf (length m) (num m) p ≡ cond b (fieldAt m p 64) (fieldAt m p 32 * 2 ^ 32)
+  at-length : (b : Bool) → longIn (twoHalvesAt (length m) (num m) p) ≡ b → unfetchedAt p b (length m) ≡ false → fetchOf (length m) (num m) p ≡ cond b (fieldAt m p 64) (fieldAt m p 32 * 2 ^ 32)
   unfolding unfetchedAt
   at-length true t h = fetched-as true t ∙ whole-there (not-false _ (both-false (not (there p 1 (length m))) (not (there p 2 (length m))) h .1))
   at-length false t h = fetched-as false t ∙ ap (λ (x : ℕ). x * 2 ^ 32) (left-of-there (not-false _ (both-false (not (there p 1 (length m))) false h .0)))

@@ -7,9 +7,9 @@ use native.Mathlib.Omega.{arith}
 use lib.Bits.{bitOr, or-self}
 use lib.Dec.{lit<}
 use Rattle.instructions.specs.declared.operands.Operands.{Operands}
-use Rattle.instructions.specs.Items.{Shape, Worked, flagsAt, turns}
+use Rattle.instructions.specs.Items.{Shape, MemoryAndFlags, flagsAt, turns}
 use Rattle.instructions.specs.Scalars.{scalarOf}
-use Rattle.instructions.specs.Plan.{shape}
+use Rattle.instructions.specs.Plan.{shapeOf}
 use Rattle.instructions.specs.Instruction.{planOf, worksOf, actsOf}
 use Rattle.instructions.proofs.Unions.{or-assoc}
 
@@ -42,15 +42,15 @@ kept-on f g h p q = ap (bitOr f) (sym q) ∙ sym (united f g h) ∙ ap (λ (x : 
 
 -- ---- items, and an instruction of one step
 
-turns-kept : (s : Shape) (L from k : ℕ) (w : Worked) → Kept (w .flags) (turns s L from k w .flags)
+turns-kept : (s : Shape) (L from k : ℕ) (w : MemoryAndFlags) → Kept (w .flags) (turns s L from k w .flags)
 turns-kept s L from zero w = kept-same (w .flags)
 turns-kept s L from (suc k) w =
     let x = turns s L from k w in
     kept-on (w .flags) (x .flags) (bitOr (x .flags) (flagsAt s L (from + k) (x .memory))) (turns-kept s L from k w) (kept-more (x .flags) (flagsAt s L (from + k) (x .memory)))
 
-pub works-kept : (word : ℕ) (o : Operands) (bytes from count : ℕ) (w : Worked) → Kept (w .flags) (worksOf word o bytes from count w .flags)
+pub works-kept : (word : ℕ) (o : Operands) (bytes from count : ℕ) (w : MemoryAndFlags) → Kept (w .flags) (worksOf word o bytes from count w .flags)
 unfolding worksOf
-works-kept word o bytes from count w = turns-kept (shape (planOf word o)) (8 * bytes) from count w
+works-kept word o bytes from count w = turns-kept (shapeOf (planOf word o)) (8 * bytes) from count w
 
 pub acts-kept : (p word : ℕ) (o : Operands) (bytes memory : ℕ) (registers : List ℕ) (flags : ℕ) → Kept flags (actsOf p word o bytes memory registers flags .flags)
 unfolding actsOf

@@ -8,7 +8,7 @@ use native.Mathlib.Omega.{arith}
 use lib.Arith.{bin-ind}
 use lib.Bits.{bitAnd, bitXor, differ, and-zero-r, and-mask, xor-zero-r, xor-step, xor-lt}
 use lib.Dec.{eqb}
-use Rattle.instructions.specs.Loops.{Gate}
+use Rattle.instructions.specs.Private.Loops.{Gate}
 
 two : (g : ℕ) → g < 2 → (g ≡ 0) ⊎ (g ≡ 1)
 two zero h = inl refl

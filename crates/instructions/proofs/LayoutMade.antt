@@ -15,8 +15,8 @@ use Rattle.instructions.specs.declared.table.Kind.{Kind}
 use Rattle.instructions.specs.declared.table.Found.{Found}
 use Rattle.instructions.specs.Meanings.{Meaning, unlisted, kindFor}
 use Rattle.instructions.specs.Table.{kindOf}
-use Rattle.instructions.specs.Operands.{codeIn, foundIn, rowSays, meaningIn, gBit}
-use Rattle.instructions.specs.Layout.{lengthIn, baseIn, indexed, fieldsAt, sourceOf, shortOf, controlOf, vectorOf, runsOf, compressOf, wovenOf, moveOf, noFields, ofKind, fieldsOf}
+use Rattle.instructions.specs.Operands.{codeIn, foundIn, rowSays, meaningIn, gBit, lengthIn, baseIn, indexed}
+use Rattle.instructions.specs.Layout.{fieldsAt, sourceOf, shortOf, controlOf, vectorOf, runsOf, compressOf, wovenOf, moveOf, noFields, ofKind, fieldsOf}
 use Rattle.instructions.proofs.TableRules.{Its, its, its-none}
 
 -- an address formed of a base and a shifted count

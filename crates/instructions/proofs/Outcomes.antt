@@ -17,7 +17,7 @@ use Rattle.instructions.specs.Operands.{codeIn, meaningIn}
 use Rattle.instructions.specs.Effects.{Reaches}
 use Rattle.instructions.specs.Branches.{branchOf}
 use Rattle.instructions.specs.Scalars.{outcomeIn, scalarOf}
-use Rattle.instructions.specs.Accepted.{ReachedBy, Reached}
+use Rattle.instructions.specs.Private.Accepted.{AddressThereBy, AddressThere}
 use Rattle.instructions.proofs.TablePlaces.{meansIn}
 
 -- ---- a law of every line is one of the meaning that is looked up
@@ -78,11 +78,11 @@ module _ (w : ℕ) (o : Operands) (n x : ℕ) where
 -- ---- effects
 
 -- an effect stores in memory, if the address of the load or store lies there
-pub reached-reaches : (w : ℕ) (o : Operands) (m : List ℕ) → Reached w o m → Reaches (scalarOf w o (length m) (num m) .effect) m
-unfolding scalarOf branchOf Reached
+pub reached-reaches : (w : ℕ) (o : Operands) (m : List ℕ) → AddressThere w o m → Reaches (scalarOf w o (length m) (num m) .effect) m
+unfolding scalarOf branchOf AddressThere
 reached-reaches w o m h = go (meaningIn w) h
   where
-    go : (k : Meaning) → ReachedBy k o m → Reaches (outcomeIn k w o (length m) (num m) .effect) m
+    go : (k : Meaning) → AddressThereBy k o m → Reaches (outcomeIn k w o (length m) (num m) .effect) m
     go unlisted h = tt
     go exits h = tt
     go (acts (toT f)) h = tt

@@ -18,8 +18,8 @@ use Rattle.instructions.specs.declared.items.SecondBits.{SecondBits}
 use Rattle.instructions.specs.declared.items.SecondBits.the-variants.{From, Zeros}
 use Rattle.instructions.specs.declared.items.Made.{Made}
 use Rattle.instructions.specs.Items.{Place, bits, fixed}
-use Rattle.instructions.specs.Plan.{sourceItem, controlBit, vector, taken, secondBit, bitOf, byteOf, takenBy, bitItems, Plan, vectors, bitRuns, byteMove, shape, itemsOf}
-use Rattle.instructions.specs.Accepted.{Away, SourcePasses, ControlPasses, SecondPasses, Accepted}
+use Rattle.instructions.specs.Plan.{sourceItem, controlBit, vectorShape, takenShape, secondBit, bitOf, byteOf, takenBy, bitItems, Plan, vectors, bitRuns, byteMove, shapeOf, itemsOf}
+use Rattle.instructions.specs.Private.Accepted.{Away, SourcePasses, ControlPasses, SecondPasses, Accepted}
 use Rattle.instructions.proofs.Agree.{Clear, Sound}
 
 -- ---- vectors
@@ -39,7 +39,7 @@ control-clear L c w n i Every h k = tt
 control-clear L c w n i (Where z ones) h k = (omega arith, inl (⊎-elim (λ l. inl (omega arith)) (λ r. inr (omega arith)) (k .1)))
 
 vector-sound : (L : ℕ) (a b : Source) (z : Control) (c w n : ℕ) (g : ℕ → ℕ → Made) → c + n * w ≤ L
-    → SourcePasses L c w n a → SourcePasses L c w n b → ControlPasses L c w n z → Sound L (vector a b z c w g) n
+    → SourcePasses L c w n a → SourcePasses L c w n b → ControlPasses L c w n z → Sound L (vectorShape a b z c w g) n
 vector-sound L a b z c w n g fits fa fb fz =
     record {
       fits = fits;
@@ -56,7 +56,7 @@ safe-clear : (L c w count i n : ℕ) (q : Place) → Safe L c (count * w) n q �
 safe-clear L c w count i n (bits a) h = (h .0, inl (h .1))
 safe-clear L c w count i n (fixed v) h = tt
 
-taken-sound : (L c w n : ℕ) (g : ℕ → Place) → c + n * w ≤ L → ((i : ℕ) → i < n → Safe L c (n * w) w (g i)) → Sound L (taken c w g) n
+taken-sound : (L c w n : ℕ) (g : ℕ → Place) → c + n * w ≤ L → ((i : ℕ) → i < n → Safe L c (n * w) w (g i)) → Sound L (takenShape c w g) n
 taken-sound L c w n g fits h = record { fits = fits; clear = λ i l. record { one = safe-clear L c w n i w (g i) (h i l); two = tt; bit = tt } }
 
 -- n bits, d bits into a field of e bits
@@ -84,8 +84,8 @@ byte-safe L c n a length fill i h k = go (ltb i length) refl
 
 -- ---- every plan
 
-pub sound : (L : ℕ) (p : Plan) → Accepted L p → Sound L (shape p) (itemsOf p)
-unfolding shape itemsOf
+pub sound : (L : ℕ) (p : Plan) → Accepted L p → Sound L (shapeOf p) (itemsOf p)
+unfolding shapeOf itemsOf
 sound L (vectors v w f) h = vector-sound L (v .first) (v .second) (v .control) (v .result) w (v .items) f (h .upto) (h .first) (h .second) (h .control)
 sound L (bitRuns b) h =
     let N : ℕ = bitItems (b .rule) (b .runs) in

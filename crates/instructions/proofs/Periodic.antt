@@ -20,8 +20,8 @@ use Rattle.fields.proofs.Places.{field-lt, field-other, field-join, field-field
 use Rattle.instructions.specs.declared.bitruns.Sides.{Sides}
 use Rattle.instructions.specs.declared.bitruns.Period.{Period}
 use Rattle.instructions.specs.Items.{Place, bits, fixed, valueAt, worked, turns}
-use Rattle.instructions.specs.Plan.{taken}
-use Rattle.instructions.specs.Loops.{Done, Room, cursorAt, wovenAt, Paced, ReadyBits, Chunk, spreadOf, bothIn, spanR, spanS, periodsOf}
+use Rattle.instructions.specs.Plan.{takenShape}
+use Rattle.instructions.specs.Private.Loops.{TurnedQuietly, Room, cursorAt, wovenAt, Paced, ReadyBits, Chunk, spreadOf, bothIn, spanR, spanS, periodsOf}
 use Rattle.instructions.proofs.Agree.{resume}
 use Rattle.instructions.proofs.Weaving.{along, within, run-by, near}
 
@@ -96,14 +96,14 @@ woven-lt L d p x i = go (ltb (cursorAt d p i .place) (p .head)) (d .some)
 -- n items side by side, stored at once, are the items in turn
 pub chunk-turn : (m₀ m m' : List ℕ) (d : Sides) (p : Period) (c N from done n v : ℕ) → ReadyBits m₀ d p c N → from + done + n ≤ N → length m ≡ length m₀
     → v ≡ gathered (size m) (wovenAt d p) (num m) (from + done) n → Kept m (c + (from + done)) n v m'
-    → (f : ℕ) → worked (num m) f ≡ turns (taken c 1 (wovenAt d p)) (size m₀) from done (worked (num m₀) f)
-    → worked (num m') f ≡ turns (taken c 1 (wovenAt d p)) (size m₀) from (done + n) (worked (num m₀) f)
+    → (f : ℕ) → worked (num m) f ≡ turns (takenShape c 1 (wovenAt d p)) (size m₀) from done (worked (num m₀) f)
+    → worked (num m') f ≡ turns (takenShape c 1 (wovenAt d p)) (size m₀) from (done + n) (worked (num m₀) f)
 chunk-turn m₀ m m' d p c N from done n v h le len ev kp f inv =
     let es : size m ≡ size m₀ = ap (λ (k : ℕ). 8 * k) len in
     ap (λ (y : ℕ). worked y f) (kp .holds ∙ ap₂ (λ (L q : ℕ). store L (c + (from + done)) n q (num m)) es (ev ∙ ap (λ (L : ℕ). gathered L (wovenAt d p) (num m) (from + done) n) es))
     ∙ sym (run-by L c i x f g n (λ j. gathered L g x i j) refl (λ j. gathered-lt L g x i (woven-lt L d p x) j) (omega (arith, h .upto-c)) (λ j hj. woven-lt L d p _ (i + j)) one)
-    ∙ ap (turns (taken c 1 g) L i n) inv
-    ∙ resume (taken c 1 g) L from done n (worked (num m₀) f)
+    ∙ ap (turns (takenShape c 1 g) L i n) inv
+    ∙ resume (takenShape c 1 g) L from done n (worked (num m₀) f)
   where
     L : ℕ
     L = 8 * length m₀
@@ -431,12 +431,12 @@ ready-less m m' d p c n n' len le h =
       clear = λ i a lt e. let z = h .clear i a (omega arith) e in (omega (arith, z .0), ⊎-elim (λ l. inl (omega arith)) (λ l. inr l) (z .1));
     }
 
-pub done-join : (m m₁ m₂ : List ℕ) (d : Sides) (p : Period) (c from a b : ℕ) → Done (taken c 1 (wovenAt d p)) from a m m₁ → Done (taken c 1 (wovenAt d p)) (from + a) b m₁ m₂ → Done (taken c 1 (wovenAt d p)) from (a + b) m m₂
+pub done-join : (m m₁ m₂ : List ℕ) (d : Sides) (p : Period) (c from a b : ℕ) → TurnedQuietly (takenShape c 1 (wovenAt d p)) from a m m₁ → TurnedQuietly (takenShape c 1 (wovenAt d p)) (from + a) b m₁ m₂ → TurnedQuietly (takenShape c 1 (wovenAt d p)) from (a + b) m m₂
 done-join m m₁ m₂ d p c from a b d₁ d₂ f =
     let es : size m₁ ≡ size m = ap (λ (n : ℕ). 8 * n) (d₁ f .as-long) in
     record {
       as-long = d₂ f .as-long ∙ d₁ f .as-long;
-      does = (rw es at (d₂ f .does)) ∙ ap (turns (taken c 1 (wovenAt d p)) (size m) (from + a) b) (d₁ f .does) ∙ resume (taken c 1 (wovenAt d p)) (size m) from a b (worked (num m) f);
+      does = (rw es at (d₂ f .does)) ∙ ap (turns (takenShape c 1 (wovenAt d p)) (size m) (from + a) b) (d₁ f .does) ∙ resume (takenShape c 1 (wovenAt d p)) (size m) from a b (worked (num m) f);
     }
 
 -- so many periods fit that are no longer than w

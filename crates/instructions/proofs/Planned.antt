@@ -10,7 +10,7 @@ use Rattle.instructions.specs.declared.lanes.Gating.{Gating}
 use Rattle.instructions.specs.declared.lanes.Lanes.{Lanes}
 use Rattle.instructions.specs.Operands.{gBit}
 use Rattle.instructions.specs.Planned.{vectorIn}
-use Rattle.instructions.specs.Loops.{laneOf, gatingOf, lanesFor, laned, lanesOf, InReach, LanesReach, widthBy, singleBy, makesAt, widthAt, singleAt, Suited}
+use Rattle.instructions.specs.Private.Loops.{laneOf, gatingOf, lanesFor, laned, lanesOf, InReach, LanesReach, widthBy, singleBy, makesAt, widthAt, singleAt, Suited}
 use Rattle.instructions.specs.Table.{table, meaningOf}
 use Rattle.instructions.specs.Items.{Turned}
 use Rattle.instructions.proofs.TablePlaces.{meansIn}

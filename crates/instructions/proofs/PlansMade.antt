@@ -14,8 +14,8 @@ use Rattle.instructions.specs.declared.items.SecondBits.{SecondBits}
 use Rattle.instructions.specs.declared.items.VectorPlan.{VectorPlan}
 use Rattle.instructions.specs.declared.items.BitPlan.{BitPlan}
 use Rattle.instructions.specs.declared.items.MovePlan.{MovePlan}
-use Rattle.instructions.specs.Operands.{gBit, R, S, T}
-use Rattle.instructions.specs.Layout.{lengthIn, indexed, runsOf}
+use Rattle.instructions.specs.Operands.{gBit, R, S, T, lengthIn, indexed}
+use Rattle.instructions.specs.Layout.{runsOf}
 use Rattle.instructions.specs.Planned.{placeOf, sourceIn, controlIn, vectorIn, secondIn, bitsIn, moveIn}
 
 -- the three records, by their parts

@@ -35,13 +35,12 @@ use Rattle.instructions.specs.declared.items.Control.the-variants.{Every
 use Rattle.instructions.specs.declared.items.Rule.{Rule}
 use Rattle.instructions.specs.declared.items.SecondBits.the-variants.{From, Zeros}
 use Rattle.instructions.specs.Meanings.{toT, toHalfT, loadsByte, loadsWord, storesByte, storesWord, Work, gathers, eachOfAB, eachOfA, halfOfA, moves, Meaning, unlisted, exits, acts, branches, works, goesByItems, kindFor}
-use Rattle.instructions.specs.Operands.{meaningIn, gBit, R, S, T}
-use Rattle.instructions.specs.Layout.{lengthIn, baseIn, indexed, itemAt, loadAt, storeAt, sourceOf, controlOf, resultOf, vectorOf, runsOf, zerosOf, compressOf, mergeOf, maskOf, moveOf, ofKind, fieldsOf}
+use Rattle.instructions.specs.Operands.{meaningIn, gBit, R, S, T, lengthIn, baseIn, indexed, addressIn}
+use Rattle.instructions.specs.Layout.{addressedItem, loadAt, storeAt, sourceOf, controlOf, resultOf, vectorOf, runsOf, zerosOf, compressOf, mergeOf, maskOf, moveOf, ofKind, fieldsOf}
 use Rattle.instructions.specs.Verdict.{clash, verdictOf}
 use Rattle.instructions.specs.Plan.{takenBy, bitItems, Plan, vectors, bitRuns, byteMove, itemsOf}
 use Rattle.instructions.specs.Planned.{placeOf, sourceIn, controlIn, vectorIn, secondIn, bitsIn, moveIn, planBy, planIn}
-use Rattle.instructions.specs.Accepted.{Away, WordsPass, SourcePasses, ControlPasses, VectorPasses, SecondPasses, BitsPass, MovePasses, Accepted, Ready, ReachedBy, Reached}
-use Rattle.instructions.specs.Scalars.{byteAt, wordAt}
+use Rattle.instructions.specs.Private.Accepted.{Away, WordsPass, SourcePasses, ControlPasses, VectorPasses, SecondPasses, BitsPass, MovePasses, Accepted, Ready, AddressThereBy, AddressThere}
 use Rattle.instructions.specs.Instruction.{byItems, planOf}
 use Rattle.instructions.proofs.VerdictTests.{never, both-true}
 use Rattle.instructions.proofs.LayoutMade.{fields-mean}
@@ -337,18 +336,18 @@ word-there m a al i =
     record { from = f; upto = omega arith; whole = omega arith }
 
 -- the address of a load or a store that no check refuses lies in memory
-pub reached : (m : List ℕ) (p w : ℕ) (o : Operands) → verdictOf p w o (length m) ≡ 0 → Reached w o m
-unfolding Reached ofKind
+pub reached : (m : List ℕ) (p w : ℕ) (o : Operands) → verdictOf p w o (length m) ≡ 0 → AddressThere w o m
+unfolding AddressThere ofKind
 reached m p w o passes = go (meaningIn w) (meant-passes p w o (length m) passes)
   where
-    go : (k : Meaning) → Passed (ofKind (kindFor k) w o) (length m) → ReachedBy k o m
+    go : (k : Meaning) → Passed (ofKind (kindFor k) w o) (length m) → AddressThereBy k o m
     go unlisted q = tt
     go exits q = tt
     go (acts (toT f)) q = tt
     go (acts (toHalfT f)) q = tt
-    go (acts loadsByte) q = byte-there m (byteAt o) (q .first-aligned) (q .first-inside)
-    go (acts loadsWord) q = word-there m (wordAt o) (q .first-aligned) (q .first-inside)
-    go (acts storesByte) q = byte-there m (byteAt o) (q .result-aligned) (q .result-inside)
-    go (acts storesWord) q = word-there m (wordAt o) (q .result-aligned) (q .result-inside)
+    go (acts loadsByte) q = byte-there m (addressIn Byte o) (q .first-aligned) (q .first-inside)
+    go (acts loadsWord) q = word-there m (addressIn Word o) (q .first-aligned) (q .first-inside)
+    go (acts storesByte) q = byte-there m (addressIn Byte o) (q .result-aligned) (q .result-inside)
+    go (acts storesWord) q = word-there m (addressIn Word o) (q .result-aligned) (q .result-inside)
     go (branches c) q = tt
     go (works k) q = tt

@@ -15,22 +15,22 @@ use Rattle.instructions.specs.declared.effects.Effect.{Effect}
 use Rattle.instructions.specs.declared.effects.Effect.the-variants.{Nothing, Register, HalfRegister, Byte, Word}
 use Rattle.instructions.specs.Meanings.{toT, toHalfT, loadsByte, loadsWord, storesByte, storesWord, Meaning, unlisted, exits, acts, branches, works}
 use Rattle.instructions.specs.Table.{namedOf}
-use Rattle.instructions.specs.Operands.{codeIn, foundIn, meaningIn, rowSays, named, gathered}
+use Rattle.instructions.specs.Operands.{codeIn, foundIn, meaningIn, rowSays, supplied, gathered}
 use Rattle.instructions.specs.Words.{missingAt, missing}
-use Rattle.instructions.specs.Verdict.{checks, case, verdictOf}
+use Rattle.instructions.specs.Verdict.{checks, caseOf, verdictOf}
 use Rattle.instructions.specs.Effects.{registersAfter}
 use Rattle.instructions.specs.Branches.{branchOf}
 use Rattle.instructions.specs.Scalars.{outcomeIn, scalarOf}
-use Rattle.instructions.specs.Instruction.{Done, done, actsOf}
+use Rattle.instructions.specs.Instruction.{Done, leaving, actsOf}
 use Rattle.instructions.proofs.VerdictOrder.{Passes, next, verdict-none}
 use Rattle.instructions.proofs.TablePlaces.{every, Looked, has, none, looked}
 use Rattle.instructions.proofs.TableRules.{resultNamed, resultRule}
 
 -- ---- not read
 
-named-spared : (registers : List ℕ) (v t : ℕ) → named (set registers 0 v) t ≡ named registers t
-unfolding named
-named-spared registers v t = go (eqb t 0) refl
+supplied-spared : (registers : List ℕ) (v t : ℕ) → supplied (set registers 0 v) t ≡ supplied registers t
+unfolding supplied
+supplied-spared registers v t = go (eqb t 0) refl
   where
     go : (b : Bool) → eqb t 0 ≡ b → cond b 0x8000_0000_0000_0000 (getD (set registers 0 v) t 0) ≡ cond b 0x8000_0000_0000_0000 (getD registers t 0)
     go true e = refl
@@ -38,7 +38,7 @@ named-spared registers v t = go (eqb t 0) refl
 
 pub gathered-spared : (w : ℕ) (registers : List ℕ) (v : ℕ) → gathered w (set registers 0 v) ≡ gathered w registers
 unfolding gathered
-gathered-spared w registers v = simp (named-spared registers v)
+gathered-spared w registers v = simp (supplied-spared registers v)
 
 -- ---- not written
 
@@ -64,7 +64,7 @@ registers-spared (Word a u) registers v h = refl
 
 -- what an instruction has done, with v in register 00
 abbrev pub done00 : ℕ → Done → Done
-done00 v d = done (d .memory) (set (d .registers) 0 v) (d .p) (d .flags)
+done00 v d = leaving (d .memory) (set (d .registers) 0 v) (d .p) (d .flags)
 
 -- a designator that 7 has let pass is not 00, and a half word neither 00 nor 01
 let-pass : (m t : ℕ) → m ≡ 0xFF → (not (eqb m 0) && eqb (bitAnd t m) 0) ≡ false → t ≡ 0 → ⊥
@@ -92,22 +92,22 @@ module _ (p w : ℕ) (o : Operands) (bytes : ℕ) (passes : verdictOf p w o byte
   let-by : rowSays false (λ r. missing (namedOf r) w) (foundIn w) ≡ false
   let-by = go (verdict-none p w o bytes .0 passes)
     where
-      go : Passes (case p w o bytes) checks → rowSays false (λ r. missing (namedOf r) w) (foundIn w) ≡ false
+      go : Passes (caseOf p w o bytes) checks → rowSays false (λ r. missing (namedOf r) w) (foundIn w) ≡ false
       go (next _ (next _ (next _ (next e _)))) = e
 
   -- what comes of a meaning, where the designator of its result is named and is not 00
-  spares : (m : Meaning) (named x : ℕ) → T (resultNamed m named) → missingAt named w 24 ≡ false → missingAt named w 56 ≡ false → Spares (outcomeIn m w o bytes x .effect)
+  spares : (m : Meaning) (mask x : ℕ) → T (resultNamed m mask) → missingAt mask w 24 ≡ false → missingAt mask w 56 ≡ false → Spares (outcomeIn m w o bytes x .effect)
   unfolding branchOf
-  spares unlisted named x t h i = tt
-  spares exits named x t h i = tt
-  spares (acts (toT f)) named x t h i = let-pass (field 64 24 8 named) _ (eqb→eq _ 0xFF t) h
-  spares (acts (toHalfT f)) named x t h i = half-let-pass (field 64 24 8 named) _ (eqb→eq _ 0xFE t) h
-  spares (acts loadsByte) named x t h i = let-pass (field 64 24 8 named) _ (eqb→eq _ 0xFF t) h
-  spares (acts loadsWord) named x t h i = let-pass (field 64 24 8 named) _ (eqb→eq _ 0xFF t) h
-  spares (acts storesByte) named x t h i = tt
-  spares (acts storesWord) named x t h i = tt
-  spares (branches c) named x t h i = let-pass (field 64 56 8 named) _ (eqb→eq _ 0xFF t) i
-  spares (works k) named x t h i = tt
+  spares unlisted mask x t h i = tt
+  spares exits mask x t h i = tt
+  spares (acts (toT f)) mask x t h i = let-pass (field 64 24 8 mask) _ (eqb→eq _ 0xFF t) h
+  spares (acts (toHalfT f)) mask x t h i = half-let-pass (field 64 24 8 mask) _ (eqb→eq _ 0xFE t) h
+  spares (acts loadsByte) mask x t h i = let-pass (field 64 24 8 mask) _ (eqb→eq _ 0xFF t) h
+  spares (acts loadsWord) mask x t h i = let-pass (field 64 24 8 mask) _ (eqb→eq _ 0xFF t) h
+  spares (acts storesByte) mask x t h i = tt
+  spares (acts storesWord) mask x t h i = tt
+  spares (branches c) mask x t h i = let-pass (field 64 56 8 mask) _ (eqb→eq _ 0xFF t) i
+  spares (works k) mask x t h i = tt
 
   scalar-spares : (x : ℕ) → Spares (scalarOf w o bytes x .effect)
   unfolding scalarOf every
@@ -125,4 +125,4 @@ module _ (p w : ℕ) (o : Operands) (bytes : ℕ) (passes : verdictOf p w o byte
   unfolding actsOf
   acts-spared memory registers flags v =
       let d = actsOf p w o bytes memory registers flags in
-      ap (λ (rs : List ℕ). done (d .memory) rs (d .p) (d .flags)) (registers-spared (scalarOf w o bytes memory .effect) registers v (scalar-spares memory))
+      ap (λ (rs : List ℕ). leaving (d .memory) rs (d .p) (d .flags)) (registers-spared (scalarOf w o bytes memory .effect) registers v (scalar-spares memory))

@@ -15,11 +15,11 @@ use Rattle.instructions.specs.Fetch.{lengthOf}
 use Rattle.instructions.specs.Effects.{Reaches, Applied, nextP}
 use Rattle.instructions.specs.Scalars.{scalarOf}
 use Rattle.instructions.specs.Items.{worked, Turned}
-use Rattle.instructions.specs.Plan.{Plan, vectors, shape, itemsOf}
-use Rattle.instructions.specs.Loops.{lanesFor, widthAt, makesAt, Suited}
+use Rattle.instructions.specs.Plan.{Plan, vectors, shapeOf, itemsOf}
+use Rattle.instructions.specs.Private.Loops.{lanesFor, widthAt, makesAt, Suited}
 use Rattle.instructions.specs.declared.items.VectorPlan.{VectorPlan}
-use Rattle.instructions.specs.Accepted.{Ready, Reached}
-use Rattle.instructions.specs.Instruction.{byItems, planOf, countOf, worksOf, done, actsOf}
+use Rattle.instructions.specs.Private.Accepted.{Ready, AddressThere}
+use Rattle.instructions.specs.Instruction.{byItems, planOf, countOf, worksOf, leaving, actsOf}
 use Rattle.instructions.proofs.Outcomes.{reached-reaches}
 use Rattle.instructions.proofs.Readied.{ready}
 
@@ -37,7 +37,7 @@ vector-asks m p w o v k from count e suited right passes is l some =
     let q = work-asks m p w o (vectors v (widthAt k) (makesAt k)) from count e right passes is l some in
     (q .0, q .1, q .2, suited)
 
-pub work-did : (w : ℕ) (o : Operands) (plan : Plan) (from count : ℕ) (m : List ℕ) (f : ℕ) (m' : List ℕ) (f' : ℕ) → plan ≡ planOf w o → Turned (shape plan) from count m f m' f'
+pub work-did : (w : ℕ) (o : Operands) (plan : Plan) (from count : ℕ) (m : List ℕ) (f : ℕ) (m' : List ℕ) (f' : ℕ) → plan ≡ planOf w o → Turned (shapeOf plan) from count m f m' f'
     → (length m' ≡ length m) × (worked (num m') f' ≡ worksOf w o (length m) from count (worked (num m) f))
 unfolding worksOf
 work-did w o plan from count m f m' f' e t = (t .as-long, rw (← e) (t .does))
@@ -47,10 +47,10 @@ pub none-did : (w : ℕ) (o : Operands) (from count : ℕ) (m : List ℕ) (f : �
 unfolding worksOf
 none-did w o from count m f e = (refl, rw e)
 
-pub apply-asks : (m : List ℕ) (w : ℕ) (o : Operands) (u : Outcome) → u ≡ scalarOf w o (length m) (num m) → Reached w o m → Reaches (u .effect) m
+pub apply-asks : (m : List ℕ) (w : ℕ) (o : Operands) (u : Outcome) → u ≡ scalarOf w o (length m) (num m) → AddressThere w o m → Reaches (u .effect) m
 apply-asks m w o u e r = subst (λ (v : Outcome). Reaches (v .effect) m) (sym e) (reached-reaches w o m r)
 
 pub act-did : (p w : ℕ) (o : Operands) (m r : List ℕ) (f : ℕ) (m' r' : List ℕ) (u : Outcome) (to bits : ℕ) → u ≡ scalarOf w o (length m) (num m) → Applied (u .effect) m r m' r'
-    → bits ≡ lengthOf w → to ≡ nextP p bits (u .next) → (length m' ≡ length m) × (done (num m') r' to (bitOr f (u .flags)) ≡ actsOf p w o (length m) (num m) r f)
+    → bits ≡ lengthOf w → to ≡ nextP p bits (u .next) → (length m' ≡ length m) × (leaving (num m') r' to (bitOr f (u .flags)) ≡ actsOf p w o (length m) (num m) r f)
 unfolding actsOf
 act-did p w o m r f m' r' u to bits e a eb et = (a .as-long, rw (← e, ← eb, ← et, a .memory, a .registers))

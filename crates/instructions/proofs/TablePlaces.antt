@@ -13,7 +13,7 @@ use Rattle.instructions.specs.declared.table.Found.{Found}
 use Rattle.instructions.specs.declared.table.Found.the-variants.{At, Nothing}
 use Rattle.instructions.specs.Meanings.{Meaning, unlisted}
 use Rattle.instructions.specs.Table.{Line, rowOf, table, lookUp, find, found, meaningOf, rowIn}
-use Rattle.instructions.specs.Inner.{Past, Stands}
+use Rattle.instructions.specs.Private.Inner.{Past, Stands}
 use Rattle.instructions.proofs.Conjunctions.{and-first, and-rest}
 
 -- ---- a code that is none of the first ones

@@ -13,8 +13,8 @@ use Rattle.instructions.specs.declared.table.Kind.{Kind}
 use Rattle.instructions.specs.declared.table.Row.{Row}
 use Rattle.instructions.specs.declared.table.Found.{Found}
 use Rattle.instructions.specs.Meanings.{goesByItems, kindFor, toT, toHalfT, loadsByte, loadsWord, storesByte, storesWord, gathers, eachOfAB, eachOfA, halfOfA, moves, Meaning, unlisted, exits, acts, branches, works}
-use Rattle.instructions.specs.Table.{atS, atX, atY, G, Line, table, rowOf, codeOf, kindOf, long, vector, zeroBits, lookUp, found, meaningOf}
-use Rattle.instructions.specs.Inner.{hasItems}
+use Rattle.instructions.specs.Table.{atS, atX, atY, G, Line, table, rowOf, codeOf, kindOf, long, vectorFormat, zeroBits, lookUp, found, meaningOf}
+use Rattle.instructions.specs.Private.Inner.{hasItems}
 use Rattle.instructions.proofs.Conjunctions.{and-first, and-rest}
 use Rattle.instructions.proofs.TablePlaces.{every, Looked, has, none, looked}
 
@@ -77,8 +77,8 @@ formatARule l = not (eqb (l .format) 0xA) || eqb (bitAnd (l .zeros) atS) atS
 -- the vectors are those of format 1; X and Y are zero there, G bit 1 is allowed, and Z may be 00 or not
 abbrev pub vectorRule : Line → Bool
 vectorRule l =
-    Bool·beq (vector (l .format)) (ofTwo (l .means) || ofOne (l .means))
-    && (not (vector (l .format)) || (eqb (bitAnd (l .zeros) (atX + atY)) (atX + atY) && eqb (bitAnd (l .allowed) (G 1)) (G 1) && eqb (bitAnd (zeroBits (rowOf l) + l .named) 0xFF00) 0))
+    Bool·beq (vectorFormat (l .format)) (ofTwo (l .means) || ofOne (l .means))
+    && (not (vectorFormat (l .format)) || (eqb (bitAnd (l .zeros) (atX + atY)) (atX + atY) && eqb (bitAnd (l .allowed) (G 1)) (G 1) && eqb (bitAnd (zeroBits (rowOf l) + l .named) 0xFF00) 0))
 
 -- B is named where it is a source, and zero where only A is
 abbrev pub secondRule : Line → Bool

@@ -17,9 +17,9 @@ use Rattle.fields.specs.Memory.{Kept}
 use Rattle.instructions.specs.declared.lanes.Lane.{Lane}
 use Rattle.instructions.specs.declared.lanes.Gating.{Gating}
 use Rattle.instructions.specs.declared.items.Made.{Made}
-use Rattle.instructions.specs.Items.{Place, bits, Shape, valueAt, storedAt, madeAt, itemAt, flagsAt, Worked, worked, turn, turns}
-use Rattle.instructions.specs.Plan.{taken, sourceItem, controlBit, senseOf}
-use Rattle.instructions.specs.Loops.{Settled, Gate, sourceBy, controlBy, laned}
+use Rattle.instructions.specs.Items.{Place, bits, Shape, valueAt, storedAt, madeAt, itemAt, flagsAt, MemoryAndFlags, worked, turn, turns}
+use Rattle.instructions.specs.Plan.{takenShape, sourceItem, controlBit, senseOf}
+use Rattle.instructions.specs.Private.Loops.{Settled, Gate, sourceBy, controlBy, laned}
 
 -- an item that is settled is a turn
 pub one-turn : (s : Shape) (m m' : List ℕ) (f f' i : ℕ) (go : Bool) (new : Made) → go ≡ storedAt s (size m) i (num m) → new ≡ madeAt s (size m) i (num m)
@@ -67,21 +67,21 @@ settling m m' a a' w go new f old item raised v e ev eo ei er kp =
 
 -- a turn of the loops that only move bits or bytes
 pub taken-turn : (c w : ℕ) (g : ℕ → Place) (m₀ m m' : List ℕ) (f₀ f from k v : ℕ) → length m ≡ length m₀
-    → worked (num m) f ≡ turns (taken c w g) (size m₀) from k (worked (num m₀) f₀)
+    → worked (num m) f ≡ turns (takenShape c w g) (size m₀) from k (worked (num m₀) f₀)
     → v ≡ valueAt (size m) w (g (from + k)) (num m) → v < 2 ^ w → Kept m (c + (from + k) * w) w v m'
-    → worked (num m') f ≡ turns (taken c w g) (size m₀) from (k + 1) (worked (num m₀) f₀)
+    → worked (num m') f ≡ turns (takenShape c w g) (size m₀) from (k + 1) (worked (num m₀) f₀)
 unfolding itemAt flagsAt storedAt madeAt
 taken-turn c w g m₀ m m' f₀ f from k v len inv ev hv kp =
-    more (taken c w g) m₀ m m' f₀ f f from k len inv
+    more (takenShape c w g) m₀ m m' f₀ f f from k len inv
     (ap₂ worked
     (kp .holds ∙ ap (λ (y : ℕ). store (size m) (c + (from + k) * w) w y (num m)) (sym (mod-eq-of-lt hv) ∙ ap (λ (y : ℕ). y % 2 ^ w) ev))
     (sym (or-zero-r f)))
 
 -- a turn of the loops of bytes
 pub byte-turn : (kc : ℕ) (g : ℕ → Place) (m₀ m : List ℕ) (f₀ f from j v : ℕ) → Bytes m → length m ≡ length m₀
-    → worked (num m) f ≡ turns (taken (8 * kc) 8 g) (size m₀) from j (worked (num m₀) f₀)
+    → worked (num m) f ≡ turns (takenShape (8 * kc) 8 g) (size m₀) from j (worked (num m₀) f₀)
     → v ≡ valueAt (size m) 8 (g (from + j)) (num m) → v < 256 → kc + (from + j) < length m
-    → worked (num (set m (kc + (from + j)) v)) f ≡ turns (taken (8 * kc) 8 g) (size m₀) from (j + 1) (worked (num m₀) f₀)
+    → worked (num (set m (kc + (from + j)) v)) f ≡ turns (takenShape (8 * kc) 8 g) (size m₀) from (j + 1) (worked (num m₀) f₀)
 byte-turn kc g m₀ m f₀ f from j v hb len inv ev hv lt =
     let e : 8 * (kc + (from + j)) ≡ 8 * kc + (from + j) * 8 = omega arith in
     taken-turn (8 * kc) 8 g m₀ m (set m (kc + (from + j)) v) f₀ f from j v len inv ev hv
@@ -94,9 +94,9 @@ byte-read m k i hb lt =
     sym (byte-field m (k + i) hb lt) ∙ ap (λ (a : ℕ). field (size m) a 8 (num m)) e
 
 -- shapes that agree at the items worked do the same
-pub alike : (c w : ℕ) (g g' : ℕ → Place) (L from n : ℕ) (u : Worked) → ((j : ℕ) → j < n → g (from + j) ≡ g' (from + j)) → turns (taken c w g) L from n u ≡ turns (taken c w g') L from n u
+pub alike : (c w : ℕ) (g g' : ℕ → Place) (L from n : ℕ) (u : MemoryAndFlags) → ((j : ℕ) → j < n → g (from + j) ≡ g' (from + j)) → turns (takenShape c w g) L from n u ≡ turns (takenShape c w g') L from n u
 unfolding itemAt flagsAt storedAt madeAt
 alike c w g g' L from zero u e = refl
 alike c w g g' L from (suc n) u e =
-    ap (λ (p : Place). worked (store L (c + (from + n) * w) w (valueAt L w p (turns (taken c w g) L from n u .memory) % 2 ^ w) (turns (taken c w g) L from n u .memory)) (bitOr (turns (taken c w g) L from n u .flags) 0)) (e n (omega arith))
-    ∙ ap (turn (taken c w g') L (from + n)) (alike c w g g' L from n u (λ j h. e j (omega arith)))
+    ap (λ (p : Place). worked (store L (c + (from + n) * w) w (valueAt L w p (turns (takenShape c w g) L from n u .memory) % 2 ^ w) (turns (takenShape c w g) L from n u .memory)) (bitOr (turns (takenShape c w g) L from n u .flags) 0)) (e n (omega arith))
+    ∙ ap (turn (takenShape c w g') L (from + n)) (alike c w g g' L from n u (λ j h. e j (omega arith)))

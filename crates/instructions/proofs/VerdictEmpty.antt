@@ -21,13 +21,13 @@ use Rattle.instructions.specs.declared.operands.Operands.{Operands}
 use Rattle.instructions.specs.declared.layout.Fields.{Fields}
 use Rattle.instructions.specs.declared.items.Rule.{Rule}
 use Rattle.instructions.specs.Meanings.{Work, gathers, eachOfAB, eachOfA, halfOfA, moves, Meaning, unlisted, exits, acts, branches, works, goesByItems, kindFor}
-use Rattle.instructions.specs.Operands.{meaningIn, gBit, R, S, T}
+use Rattle.instructions.specs.Operands.{meaningIn, gBit, R, S, T, lengthIn, baseIn, indexed}
 use Rattle.instructions.specs.Plan.{itemsOf}
 use Rattle.instructions.specs.Planned.{planBy, planIn}
 use Rattle.instructions.specs.Instruction.{byItems, planOf, countOf}
-use Rattle.instructions.specs.Layout.{lengthIn, baseIn, indexed, sourceOf, shortOf, controlOf, resultOf, vectorOf, runsOf, zerosOf, compressOf, wovenOf, mergeOf, maskOf, moveOf, ofKind, fieldsOf}
+use Rattle.instructions.specs.Layout.{sourceOf, shortOf, controlOf, resultOf, vectorOf, runsOf, zerosOf, compressOf, wovenOf, mergeOf, maskOf, moveOf, ofKind, fieldsOf}
 use Rattle.instructions.specs.Verdict.{misaligned, outside, overlapping}
-use Rattle.instructions.specs.Inner.{refusalOf}
+use Rattle.instructions.specs.Private.Inner.{refusalOf}
 use Rattle.instructions.proofs.VerdictTests.{never}
 use Rattle.instructions.proofs.LayoutMade.{fields-mean}
 

@@ -12,12 +12,12 @@ use Rattle.instructions.specs.declared.words.Refusal.{Refusal}
 use Rattle.instructions.specs.declared.words.Decoded.{Decoded}
 use Rattle.instructions.specs.Table.{formatOf, namedOf, kindOf, long}
 use Rattle.instructions.specs.Operands.{codeIn, foundIn, rowSays}
-use Rattle.instructions.specs.Words.{notZero, missing, numberOf, decoded}
+use Rattle.instructions.specs.Words.{notZero, missing, refusalNumber, decoded}
 use Rattle.instructions.proofs.WordsOrder.{refused-5, refused-6, refused-7, listed-passes}
 use Rattle.instructions.specs.Layout.{noFields, ofKind, fieldsOf}
 use Rattle.instructions.specs.Fetch.{longIn, unfetchedAt}
 use Rattle.instructions.specs.Verdict.{misaligned, outside, overlapping, verdictOf}
-use Rattle.instructions.specs.Inner.{refusalOf, listedOf}
+use Rattle.instructions.specs.Private.Inner.{refusalOf, listedOf}
 
 -- ---- 8 to 11, over four tests, so that no rewriting looks into a record
 
@@ -47,7 +47,7 @@ module _ (w : ℕ) (o : Operands) (n : ℕ) where
   unfolding listedOf refusalOf
   listed-after r e = let q = listed-passes w r .0 e in rw (q .0, q .1, q .2)
 
-  refused-after : (why : Refusal) → decoded w ≡ Decoded.Refused why → after (foundIn w) ≡ numberOf why
+  refused-after : (why : Refusal) → decoded w ≡ Decoded.Refused why → after (foundIn w) ≡ refusalNumber why
   refused-after Refusal.NotListed e = rw (refused-5 w .0 e)
   refused-after Refusal.NotZero e = let q = refused-6 w .0 e in rw (q .1, q .2)
   refused-after Refusal.NoMeaning e = let q = refused-7 w .0 e in rw (q .1, q .2, q .3)
@@ -60,7 +60,7 @@ module _ (w : ℕ) (o : Operands) (n : ℕ) where
     pub refused-not-there : (u : Bool) → u ≡ unfetchedAt p (longIn w) n → u ≡ true → 4 ≡ verdictOf p w o n
     refused-not-there u eu h = sym (parts ∙ rw (← eu, h))
 
-    pub refused-word : (u : Bool) (why : Refusal) (v : ℕ) → u ≡ unfetchedAt p (longIn w) n → u ≡ false → d ≡ Decoded.Refused why → v ≡ numberOf why → v ≡ verdictOf p w o n
+    pub refused-word : (u : Bool) (why : Refusal) (v : ℕ) → u ≡ unfetchedAt p (longIn w) n → u ≡ false → d ≡ Decoded.Refused why → v ≡ refusalNumber why → v ≡ verdictOf p w o n
     refused-word u why v eu h e ev = sym (parts ∙ rw (← eu, h) (refused-after why (sym is-decoded ∙ e)) ∙ sym ev)
 
     module _ (r : Row) (e : d ≡ Decoded.Listed r) where

@@ -18,7 +18,7 @@ use Rattle.fields.proofs.FieldMeaning.{Multiple, aligned-multiple, inside-ends,
 use Rattle.instructions.specs.declared.operands.Operands.{Operands}
 use Rattle.instructions.specs.declared.layout.Fields.{Fields}
 use Rattle.instructions.specs.Layout.{fieldsOf}
-use Rattle.instructions.specs.Verdict.{checks, case, misaligned, outside, clash, overlapping, verdictOf}
+use Rattle.instructions.specs.Verdict.{checks, caseOf, misaligned, outside, clash, overlapping, verdictOf}
 use Rattle.instructions.proofs.VerdictTests.{never, both-true, both-false, and-not}
 use Rattle.instructions.proofs.VerdictOrder.{Passes, end, next, verdict-none}
 
@@ -111,5 +111,5 @@ module _ (f : Fields) (n : ℕ) where
 pub verdict-passed : (p w : ℕ) (o : Operands) (n : ℕ) → verdictOf p w o n ≡ 0 → Passed (fieldsOf w o) n
 verdict-passed p w o n e = go (verdict-none p w o n .0 e)
   where
-    go : Passes (case p w o n) checks → Passed (fieldsOf w o) n
+    go : Passes (caseOf p w o n) checks → Passed (fieldsOf w o) n
     go (next _ (next _ (next _ (next _ (next _ (next m (next s (next x (next v end))))))))) = all-four (fieldsOf w o) n m s x v

@@ -16,12 +16,12 @@ use Rattle.instructions.specs.declared.words.Decoded.{Decoded}
 use Rattle.instructions.specs.declared.table.Kind.{Kind}
 use Rattle.instructions.specs.Table.{formatOf, kindOf, long, found}
 use Rattle.instructions.specs.Operands.{codeIn, foundIn, rowSays}
-use Rattle.instructions.specs.Words.{numberOf, decoded}
-use Rattle.instructions.specs.Fetch.{longIn, there, wordAt, fetchOf, unfetchedAt}
+use Rattle.instructions.specs.Words.{refusalNumber, decoded}
+use Rattle.instructions.specs.Fetch.{longIn, there, twoHalvesAt, fetchOf, unfetchedAt}
 use Rattle.instructions.specs.Branches.{takenOf, targetOf}
-use Rattle.instructions.specs.Layout.{noFields, itemAt, loadAt, storeAt, branchOf, ofKind}
+use Rattle.instructions.specs.Layout.{noFields, addressedItem, loadAt, storeAt, branchFields, ofKind}
 use Rattle.instructions.specs.Verdict.{misaligned, outside, overlapping, verdictOf}
-use Rattle.instructions.specs.Inner.{hasItems, refusalOf, listedOf, reachedBy, arrives, oneStepOf, cutOff}
+use Rattle.instructions.specs.Private.Inner.{hasItems, refusalOf, listedOf, alignedInside, arrives, oneStepOf, cutOff}
 use Rattle.instructions.specs.Instruction.{byItems, oneStep, mayWork}
 use Rattle.instructions.proofs.TableRules.{ends, Its, its}
 use Rattle.instructions.proofs.WordsOrder.{listed-passes}
@@ -34,7 +34,7 @@ pub none-passes : (n : ℕ) → eqb (refusalOf noFields n) 0 ≡ true
 unfolding refusalOf misaligned outside overlapping aligned inside shares
 none-passes n = refl
 
-pub branch-passes : (w : ℕ) (o : Operands) (n : ℕ) → eqb (refusalOf (branchOf w o) n) 0 ≡ arrives w o
+pub branch-passes : (w : ℕ) (o : Operands) (n : ℕ) → eqb (refusalOf (branchFields w o) n) 0 ≡ arrives w o
 unfolding refusalOf misaligned outside overlapping aligned inside shares
 branch-passes w o n = go (takenOf w o) (eqb (targetOf o .0 % 32) 0)
   where
@@ -65,7 +65,7 @@ load-clear : (f : Field) → false ≡ overlapping (loadAt f)
 unfolding overlapping shares
 load-clear f = refl
 
-pub load-passes : (f : Field) (n : ℕ) → eqb (refusalOf (loadAt f) n) 0 ≡ reachedBy f n
+pub load-passes : (f : Field) (n : ℕ) → eqb (refusalOf (loadAt f) n) 0 ≡ alignedInside f n
 load-passes f n =
     ap (λ (k : ℕ). eqb k 0) (sym (refusal-is (loadAt f) n (not (aligned f)) false (not (inside f n)) false (load-aligned f) refl (load-inside f n) (load-clear f)))
     ∙ by-numbers (aligned f) (inside f n)
@@ -90,7 +90,7 @@ store-clear : (f : Field) → false ≡ overlapping (storeAt f)
 unfolding overlapping
 store-clear f = rw (shares-none f)
 
-pub store-passes : (f : Field) (n : ℕ) → eqb (refusalOf (storeAt f) n) 0 ≡ reachedBy f n
+pub store-passes : (f : Field) (n : ℕ) → eqb (refusalOf (storeAt f) n) 0 ≡ alignedInside f n
 store-passes f n =
     ap (λ (k : ℕ). eqb k 0) (sym (refusal-is (storeAt f) n (not (aligned f)) false (not (inside f n)) false (store-aligned f) refl (store-inside f n) (store-clear f)))
     ∙ by-numbers (aligned f) (inside f n)
@@ -111,10 +111,10 @@ unfolding oneStepOf ofKind
 step-by-kind Kind.Exit w o n = refl
 step-by-kind Kind.Register w o n = rw (none-passes n)
 step-by-kind Kind.Branch w o n = rw (branch-passes w o n) (and-true (arrives w o))
-step-by-kind Kind.LoadByte w o n = rw (load-passes (itemAt Byte o) n) (and-true (reachedBy (itemAt Byte o) n))
-step-by-kind Kind.StoreByte w o n = rw (store-passes (itemAt Byte o) n) (and-true (reachedBy (itemAt Byte o) n))
-step-by-kind Kind.LoadWord w o n = rw (load-passes (itemAt Word o) n) (and-true (reachedBy (itemAt Word o) n))
-step-by-kind Kind.StoreWord w o n = rw (store-passes (itemAt Word o) n) (and-true (reachedBy (itemAt Word o) n))
+step-by-kind Kind.LoadByte w o n = rw (load-passes (addressedItem Byte o) n) (and-true (alignedInside (addressedItem Byte o) n))
+step-by-kind Kind.StoreByte w o n = rw (store-passes (addressedItem Byte o) n) (and-true (alignedInside (addressedItem Byte o) n))
+step-by-kind Kind.LoadWord w o n = rw (load-passes (addressedItem Word o) n) (and-true (alignedInside (addressedItem Word o) n))
+step-by-kind Kind.StoreWord w o n = rw (store-passes (addressedItem Word o) n) (and-true (alignedInside (addressedItem Word o) n))
 step-by-kind Kind.Compress w o n = and-false (eqb (refusalOf (ofKind Kind.Compress w o) n) 0)
 step-by-kind Kind.Merge w o n = and-false (eqb (refusalOf (ofKind Kind.Merge w o) n) 0)
 step-by-kind Kind.Mask w o n = and-false (eqb (refusalOf (ofKind Kind.Mask w o) n) 0)
@@ -127,7 +127,7 @@ step-by-kind Kind.Move w o n = and-false (eqb (refusalOf (ofKind Kind.Move w o) 
 
 -- what is not in memory reads as zero, and no row has the code 00
 nothing-there : (n x p : ℕ) → there p 2 n ≡ false → there p 1 n ≡ false → 0 ≡ fetchOf n x p
-unfolding fetchOf wordAt
+unfolding fetchOf twoHalvesAt
 nothing-there n x p e f = rw (e, f) (go (longIn 0))
   where
     go : (b : Bool) → 0 ≡ cond b 0 (0 / 2 ^ 32 * 2 ^ 32)
@@ -156,7 +156,7 @@ cut-unfetched n x p w r read e l is = go l ∙ ap (λ (b : Bool). unfetchedAt p 
     go true = refl
     go false = sym (sym (short-unfetched p n) ∙ ap not (listed-there n x p w r read e))
 
-number-some : (why : Refusal) → eqb (numberOf why) 0 ≡ false
+number-some : (why : Refusal) → eqb (refusalNumber why) 0 ≡ false
 number-some Refusal.NotListed = refl
 number-some Refusal.NotZero = refl
 number-some Refusal.NoMeaning = refl
@@ -172,7 +172,7 @@ module _ (w : ℕ) (o : Operands) (n p : ℕ) where
       where
         go : (u : Bool) → u ≡ unfetchedAt p (longIn w) n → false ≡ oneStep p w o n
         go true e = refused-step 4 (refused-not-there w o n p d is-decoded true e refl) refl
-        go false e = refused-step (numberOf why) (refused-word w o n p d is-decoded false why (numberOf why) e refl h refl) (number-some why)
+        go false e = refused-step (refusalNumber why) (refused-word w o n p d is-decoded false why (refusalNumber why) e refl h refl) (number-some why)
 
     module _ (x : ℕ) (read : w ≡ fetchOf n x p) (r : Row) (e : d ≡ Decoded.Listed r) (u l : Bool) (el : l ≡ long (formatOf r)) (eu : u ≡ cutOff p l n) where
       its-length : longIn w ≡ long (formatOf r)
@@ -236,7 +236,7 @@ module _ (w : ℕ) (o : Operands) (n p : ℕ) (d : Decoded) (is-decoded : d ≡ 
     where
       go : (u : Bool) → u ≡ unfetchedAt p (longIn w) n → false ≡ mayWork p w o n
       go true e = no-work 4 (refused-not-there w o n p d is-decoded true e refl) refl
-      go false e = no-work (numberOf why) (refused-word w o n p d is-decoded false why (numberOf why) e refl h refl) (number-some why)
+      go false e = no-work (refusalNumber why) (refused-word w o n p d is-decoded false why (refusalNumber why) e refl h refl) (number-some why)
 
   module _ (r : Row) (e : d ≡ Decoded.Listed r) where
     row-of : Its (codeIn w) r

@@ -19,8 +19,8 @@ use Rattle.instructions.specs.declared.bitruns.Sides.{Sides}
 use Rattle.instructions.specs.declared.bitruns.Period.{Period}
 use Rattle.instructions.specs.declared.bitruns.Cursor.{Cursor}
 use Rattle.instructions.specs.Items.{Place, bits, fixed, valueAt, storedAt, madeAt, itemAt, flagsAt, worked, turn, turns}
-use Rattle.instructions.specs.Plan.{taken}
-use Rattle.instructions.specs.Loops.{cursorAt, cursorOn, leftAt, wovenAt, RoomFor, Paced, ReadyBits}
+use Rattle.instructions.specs.Plan.{takenShape}
+use Rattle.instructions.specs.Private.Loops.{cursorAt, cursorOn, leftAt, wovenAt, RoomFor, Paced, ReadyBits}
 use Rattle.instructions.proofs.Agree.{resume}
 
 -- ---- the cursor
@@ -178,7 +178,7 @@ module _ (m₀ : List ℕ) (d : Sides) (p : Period) (c N i n : ℕ) (h : ReadyBi
 pub run-by : (L c from x f : ℕ) (g : ℕ → Place) (n : ℕ) (v : ℕ → ℕ) → v 0 ≡ 0 → ((j : ℕ) → v j < 2 ^ j) → c + (from + n) ≤ L
     → ((j : ℕ) → j < n → valueAt L 1 (g (from + j)) (store L (c + from) j (v j) x) < 2)
     → ((j : ℕ) → j < n → v j * 2 ^ 1 + valueAt L 1 (g (from + j)) (store L (c + from) j (v j) x) ≡ v (j + 1))
-    → turns (taken c 1 g) L from n (worked x f) ≡ worked (store L (c + from) n (v n) x) f
+    → turns (takenShape c 1 g) L from n (worked x f) ≡ worked (store L (c + from) n (v n) x) f
 unfolding itemAt flagsAt storedAt madeAt
 run-by L c from x f g zero v v0 hv le small step = ap (λ (y : ℕ). worked y f) (sym (ap (λ (q : ℕ). store L (c + from) 0 q x) v0 ∙ store-none L (c + from) x))
 run-by L c from x f g (suc n) v v0 hv le small step =
@@ -187,7 +187,7 @@ run-by L c from x f g (suc n) v v0 hv le small step =
     let hb : b < 2 ^ 1 = small n (omega arith) in
     let ec : c + (from + n) * 1 ≡ (c + from) + n = omega arith in
     let en : n + 1 ≡ suc n = omega arith in
-    ap (turn (taken c 1 g) L (from + n)) (run-by L c from x f g n v v0 hv (omega arith) (λ j h. small j (omega arith)) (λ j h. step j (omega arith)))
+    ap (turn (takenShape c 1 g) L (from + n)) (run-by L c from x f g n v v0 hv (omega arith) (λ j h. small j (omega arith)) (λ j h. step j (omega arith)))
     ∙ ap₂ worked
     (ap₂ (λ (p q : ℕ). store L p 1 q y) ec (mod-eq-of-lt hb)
     ∙ store-join L (c + from) n 1 (v n) b x (hv n) hb (omega arith)
@@ -195,7 +195,7 @@ run-by L c from x f g (suc n) v v0 hv le small step =
     (or-zero-r f)
 
 pub run-of-bits : (L c from x f : ℕ) (g : ℕ → Place) (n : ℕ) (q : Place) → c + (from + n) ≤ L → ((j : ℕ) → j < n → g (from + j) ≡ along q j) → Runs L c from n q
-    → turns (taken c 1 g) L from n (worked x f) ≡ worked (store L (c + from) n (valueAt L n q x) x) f
+    → turns (takenShape c 1 g) L from n (worked x f) ≡ worked (store L (c + from) n (valueAt L n q x) x) f
 run-of-bits L c from x f g n (bits a) le e (la, d) =
     run-by L c from x f g n (λ j. field L a j x) (field-none L a x) (λ j. field-lt L a j x) le
     (λ j h. rw (e j h) (field-lt L (a + j) 1 (store L (c + from) j (field L a j x) x)))
@@ -217,15 +217,15 @@ room-for m m₀ n c i (fixed v) e hs hw h0 hn h = tt
 
 pub weave-turn : (m₀ m m' : List ℕ) (d : Sides) (p : Period) (c N from done n v : ℕ) → ReadyBits m₀ d p c N → Paced p → 0 < n → from + done + n ≤ N → n ≤ leftAt (cursorAt d p (from + done)) p
     → length m ≡ length m₀ → v ≡ valueAt (size m) n (wovenAt d p (from + done)) (num m) → Kept m (c + (from + done)) n v m'
-    → (f : ℕ) → worked (num m) f ≡ turns (taken c 1 (wovenAt d p)) (size m₀) from done (worked (num m₀) f)
-    → worked (num m') f ≡ turns (taken c 1 (wovenAt d p)) (size m₀) from (done + n) (worked (num m₀) f)
+    → (f : ℕ) → worked (num m) f ≡ turns (takenShape c 1 (wovenAt d p)) (size m₀) from done (worked (num m₀) f)
+    → worked (num m') f ≡ turns (takenShape c 1 (wovenAt d p)) (size m₀) from (done + n) (worked (num m₀) f)
 weave-turn m₀ m m' d p c N from done n v h g hn le hl len ev kp f inv =
     let es : size m ≡ size m₀ = ap (λ (k : ℕ). 8 * k) len in
     let i : ℕ = from + done in
     ap (λ (y : ℕ). worked y f) (kp .holds ∙ ap₂ (λ (L q : ℕ). store L (c + i) n q (num m)) es (ev ∙ ap (λ (L : ℕ). valueAt L n (wovenAt d p i) (num m)) es))
     ∙ sym (run-of-bits (size m₀) c i (num m) f (wovenAt d p) n (wovenAt d p i) (omega (arith, h .upto-c)) (λ j hj. places m₀ d p c N i n h g hn le hl j hj) (stands-clear m₀ d p c N i n h g hn le hl))
-    ∙ ap (turns (taken c 1 (wovenAt d p)) (size m₀) i n) inv
-    ∙ resume (taken c 1 (wovenAt d p)) (size m₀) from done n (worked (num m₀) f)
+    ∙ ap (turns (takenShape c 1 (wovenAt d p)) (size m₀) i n) inv
+    ∙ resume (takenShape c 1 (wovenAt d p)) (size m₀) from done n (worked (num m₀) f)
 
 -- what the loop knows of the run of n bits that it works next
 pub record Turn (d : Sides) (p : Period) (c i N n : ℕ) : Type 0 where

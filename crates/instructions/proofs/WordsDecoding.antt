@@ -11,7 +11,7 @@ use Rattle.instructions.specs.declared.words.Decoded.{Decoded}
 use Rattle.instructions.specs.declared.words.Reading.{Reading}
 use Rattle.instructions.specs.declared.words.Assembled.{Assembled}
 use Rattle.instructions.specs.Table.{namedOf, found}
-use Rattle.instructions.specs.Words.{apart, joined, notZero, missing, decodedAt, decoded, readingAt, reading, assembledAt, assembled}
+use Rattle.instructions.specs.Words.{partsOf, joined, notZero, missing, decodedAt, decoded, readingAt, reading, assembledAt, assembled}
 
 module _ (w k : ℕ) (f : Found) (is-code : k ≡ field 64 0 8 w) (is-found : f ≡ found k) where
   known : (g : Found) → f ≡ g → decoded w ≡ decodedAt w g
@@ -32,7 +32,7 @@ module _ (w k : ℕ) (f : Found) (is-code : k ≡ field 64 0 8 w) (is-found : f 
     listed z m = sym (known (Found.At r) is-row ∙ rw (z, m))
 
 module _ (w : ℕ) (d : Decoded) (is-decoded : d ≡ decoded w) where
-  pub read-listed : (r : Row) (p : Parts) → d ≡ Decoded.Listed r → p ≡ apart w → Reading.Listed p ≡ reading w
+  pub read-listed : (r : Row) (p : Parts) → d ≡ Decoded.Listed r → p ≡ partsOf w → Reading.Listed p ≡ reading w
   unfolding reading
   read-listed r p e h = ap Reading.Listed h ∙ ap (readingAt w) (sym e ∙ is-decoded)
 

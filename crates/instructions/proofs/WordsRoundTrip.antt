@@ -14,7 +14,7 @@ use Rattle.instructions.specs.declared.words.Refusal.{Refusal}
 use Rattle.instructions.specs.declared.words.Decoded.{Decoded}
 use Rattle.instructions.specs.declared.words.Reading.{Reading}
 use Rattle.instructions.specs.declared.words.Assembled.{Assembled}
-use Rattle.instructions.specs.Words.{apart, bytes, joined, decoded, readingAt, reading, assembledAt, assembled}
+use Rattle.instructions.specs.Words.{partsOf, inOrder, joined, decoded, readingAt, reading, assembledAt, assembled}
 
 -- each part is a byte
 pub record Whole (p : Parts) : Type 0 where
@@ -31,7 +31,7 @@ module _ (f g x a y b z c : ℕ) (hf : f < 256) (hg : g < 256) (hx : x < 256) (h
   word : ℕ
   word = num (f ∷ g ∷ x ∷ a ∷ y ∷ b ∷ z ∷ c ∷ [])
 
-  taken : _≡_ {A = Parts} (apart word) (record { f = f; g = g; x = x; a = a; y = y; b = b; z = z; c = c })
+  taken : _≡_ {A = Parts} (partsOf word) (record { f = f; g = g; x = x; a = a; y = y; b = b; z = z; c = c })
   unfolding word
   taken =
       let ef : field 64 0 8 word ≡ f = omega arith in
@@ -44,11 +44,11 @@ module _ (f g x a y b z c : ℕ) (hf : f < 256) (hg : g < 256) (hx : x < 256) (h
       let ec : field 64 56 8 word ≡ c = omega arith in
       cc
 
-pub apart-joined : (p : Parts) → Whole p → apart (joined p) ≡ p
+pub apart-joined : (p : Parts) → Whole p → partsOf (joined p) ≡ p
 unfolding word
 apart-joined p h = taken (p .f) (p .g) (p .x) (p .a) (p .y) (p .b) (p .z) (p .c) (h .f-byte) (h .g-byte) (h .x-byte) (h .a-byte) (h .y-byte) (h .b-byte) (h .z-byte) (h .c-byte)
 
-pub joined-apart : (w : ℕ) → w < 2 ^ 64 → joined (apart w) ≡ w
+pub joined-apart : (w : ℕ) → w < 2 ^ 64 → joined (partsOf w) ≡ w
 joined-apart w h =
     sym (sym (mod-eq-of-lt h) ∙ mod-pow-add w 8 56
     ∙ ap (λ (r : ℕ). field 64 0 8 w * 2 ^ 56 + r) (mod-pow-add w 8 48
@@ -71,7 +71,7 @@ read-assembled w p h e = go (decoded w) refl e
   where
     go : (d : Decoded) → decoded w ≡ d → readingAt w d ≡ Reading.Listed p → assembledAt (joined p) (decoded (joined p)) ≡ Assembled.Word w
     go (Decoded.Listed r) k e =
-        let i : apart w ≡ p = cc in
+        let i : partsOf w ≡ p = cc in
         let j : joined p ≡ w = ap joined (sym i) ∙ joined-apart w h in
         rw (j, k)
     go (Decoded.Refused n) k e = cc
@@ -98,7 +98,7 @@ refused-alike p n e = go (decoded (joined p)) e
     go (Decoded.Listed r) e = cc
     go (Decoded.Refused m) e = ap Reading.Refused cc
 
-pub read-refused-alike : (w : ℕ) (n : Refusal) → w < 2 ^ 64 → reading w ≡ Reading.Refused n → assembled (apart w) ≡ Assembled.Refused n
+pub read-refused-alike : (w : ℕ) (n : Refusal) → w < 2 ^ 64 → reading w ≡ Reading.Refused n → assembled (partsOf w) ≡ Assembled.Refused n
 unfolding reading assembled
 read-refused-alike w n h e = rw (joined-apart w h) (go (decoded w) e)
   where

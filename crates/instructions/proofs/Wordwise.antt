@@ -12,7 +12,7 @@ use Rattle.fields.specs.Bytes.{num, size}
 use Rattle.fields.specs.Memory.{Kept}
 use Rattle.fields.proofs.Slots.{get-lt, put-sum, put-lt}
 use Rattle.fields.proofs.Places.{field-lt, field-join, field-field, store-inside, store-join}
-use Rattle.instructions.specs.Loops.{Room}
+use Rattle.instructions.specs.Private.Loops.{Room}
 
 -- n bits from bit j on, by a shift to the left end and one to the right
 pub shifted-part : (w j n : ℕ) → j + n ≤ 64 → w * 2 ^ j % 2 ^ 64 / 2 ^ (64 - n) ≡ field 64 j n w

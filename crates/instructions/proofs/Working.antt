@@ -27,11 +27,11 @@ use Rattle.instructions.specs.declared.items.BitPlan.{BitPlan}
 use Rattle.instructions.specs.declared.items.MovePlan.{MovePlan}
 use Rattle.instructions.specs.declared.items.Made.{Made}
 use Rattle.instructions.specs.Items.{Place, bits, fixed, Turned, worked}
-use Rattle.instructions.specs.Plan.{vector, taken, bitOf, takenBy, bitItems, Plan, vectors, bitRuns, byteMove, itemsOf}
-use Rattle.instructions.specs.Accepted.{SourcePasses, ControlPasses, SecondPasses, VectorPasses, BitsPass, MovePasses, Ready}
+use Rattle.instructions.specs.Plan.{vectorShape, takenShape, bitOf, takenBy, bitItems, Plan, vectors, bitRuns, byteMove, itemsOf}
+use Rattle.instructions.specs.Private.Accepted.{SourcePasses, ControlPasses, SecondPasses, VectorPasses, BitsPass, MovePasses, Ready}
 use Rattle.instructions.specs.Meanings.{gathers, eachOfAB, eachOfA, halfOfA, moves, Meaning, unlisted, exits, acts, branches, works}
 use Rattle.instructions.specs.Table.{meaningOf}
-use Rattle.instructions.specs.Loops.{widthBy, widthAt, laneOf, gatingOf, sourceBy, controlBy, lanesFor, lanesOf, LanesReach, sidesOf, periodOf, cursorAt, wovenAt, ReadyBits, ReadyBytes, Done}
+use Rattle.instructions.specs.Private.Loops.{widthBy, widthAt, laneOf, gatingOf, sourceBy, controlBy, lanesFor, lanesOf, LanesReach, sidesOf, periodOf, cursorAt, wovenAt, ReadyBits, ReadyBytes, TurnedQuietly}
 use Rattle.instructions.proofs.Turning.{alike}
 use Rattle.instructions.proofs.Passing.{Safe, bit-safe}
 
@@ -111,7 +111,7 @@ vector-ready m v w n k hs hn h =
     }
 
 pub vector-worked : (m : List ℕ) (v : VectorPlan) (w : ℕ) (g : ℕ → ℕ → Made) (from n f : ℕ) (m' : List ℕ) (f' : ℕ) → VectorPasses (size m) w v
-    → Turned (lanesOf g w (lanesFor v)) from n m f m' f' → Turned (vector (v .first) (v .second) (v .control) (v .result) w g) from n m f m' f'
+    → Turned (lanesOf g w (lanesFor v)) from n m f m' f' → Turned (vectorShape (v .first) (v .second) (v .control) (v .result) w g) from n m f m' f'
 unfolding lanesFor
 vector-worked m v w g from n f m' f' h t =
     let ea = source-by (size m) (v .result) w (v .items) (v .first) (h .first) in
@@ -174,8 +174,8 @@ bits-ready m b n hs hw h0 hn h =
     }
 
 pub bits-worked : (m : List ℕ) (b : BitPlan) (from n f : ℕ) (m' : List ℕ) → 0 < bitItems (b .rule) (b .runs)
-    → Done (taken (b .result) 1 (wovenAt (sidesOf (b .first) (b .second)) (periodOf (b .rule) (b .runs)))) from n m m'
-    → Turned (taken (b .result) 1 (λ j. bitOf (b .first) (b .second) (takenBy (b .rule) (b .runs) j))) from n m f m' f
+    → TurnedQuietly (takenShape (b .result) 1 (wovenAt (sidesOf (b .first) (b .second)) (periodOf (b .rule) (b .runs)))) from n m m'
+    → Turned (takenShape (b .result) 1 (λ j. bitOf (b .first) (b .second) (takenBy (b .rule) (b .runs) j))) from n m f m' f
 bits-worked m b from n f m' h0 d =
     let t = d f in
     record {

@@ -3,14 +3,14 @@ use mathlib.Core.Bool.{Bool, false, cond}
 use Prim.Native.Nat.{ℕ}
 use Rattle.fields.specs.declared.units.BitAddress.{BitAddress}
 use Rattle.fields.specs.Field.{field}
-use Rattle.fields.specs.Units.{inBits, formed}
+use Rattle.fields.specs.declared.extents.Unit.the-variants.{HalfWord}
 use Rattle.numbers.specs.Words.{sumOf}
 use Rattle.instructions.specs.declared.operands.Operands.{Operands}
 use Rattle.instructions.specs.declared.effects.Outcome.{Outcome}
 use Rattle.instructions.specs.declared.effects.Effect.the-variants.{Register}
 use Rattle.instructions.specs.declared.effects.Next.the-variants.{Following, Target}
 use Rattle.instructions.specs.Meanings.{Meaning, unlisted, exits, acts, branches, works}
-use Rattle.instructions.specs.Operands.{meaningIn, gBit}
+use Rattle.instructions.specs.Operands.{meaningIn, gBit, indexed}
 
 -- 01, table, B0 to B5: how such a function compares; no other does.
 abbrev pub comparesBy : Meaning → Bool → ℕ → ℕ → Bool
@@ -30,7 +30,7 @@ takenOf w o = comparesBy (meaningIn w) (gBit 4 w) (branchSum o) (o .z)
 
 -- 01, Compare and branch: "Target: low 48 of B plus Y half words".
 abbrev pub targetOf : Operands → BitAddress
-targetOf o = record { 0 = formed (o .b) (inBits 5 (o .y)) }
+targetOf o = indexed HalfWord (o .b) (o .y)
 
 -- 01, Compare and branch: the sum "goes to C .. taken or not".
 unfoldable pub branchOf : ℕ → Operands → Outcome

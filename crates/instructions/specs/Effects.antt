@@ -52,8 +52,8 @@ pub record Applied (e : Effect) (m rs m' rs' : List ℕ) : Type 0 where
   pub registers : rs' ≡ registersAfter e rs
 
 -- 01, Instruction words: an effect with the flags that it raises; the word that follows is next.
-abbrev pub goesOn : Effect → ℕ → Outcome
-goesOn e f = record { effect = e; flags = f; next = Following }
+abbrev pub fallsThrough : Effect → ℕ → Outcome
+fallsThrough e f = record { effect = e; flags = f; next = Following }
 
 -- 01, Compare and branch: the next P: a taken target, else the word that follows the one of so many bits at p.
 abbrev pub nextP : ℕ → ℕ → Next → ℕ

@@ -10,9 +10,9 @@ use Rattle.instructions.specs.declared.effects.Outcome.{Outcome}
 use Rattle.instructions.specs.declared.effects.Effect.the-variants.{Register, HalfRegister}
 use Rattle.instructions.specs.declared.effects.Next.the-variants.{Following, Target}
 use Rattle.instructions.specs.Operands.{gathered}
-use Rattle.instructions.specs.Effects.{goesOn}
+use Rattle.instructions.specs.Effects.{fallsThrough}
 use Rattle.instructions.specs.Scalars.{scalarOf}
-use Rattle.instructions.specs.Items.{Worked, worked}
+use Rattle.instructions.specs.Items.{MemoryAndFlags, worked}
 use Rattle.instructions.specs.Instruction.{countOf, wholeOf}
 
 -- 01, Examples: what a row has.
@@ -28,7 +28,7 @@ abbrev pub outcomeAt : ℕ → List ℕ → Outcome
 outcomeAt w registers = scalarOf w (gathered w registers) 8 0
 
 -- 01, Steps: memory and flags after all items of a word, on the memory m.
-abbrev pub workedAt : ℕ → List ℕ → ℕ → Worked
+abbrev pub workedAt : ℕ → List ℕ → ℕ → MemoryAndFlags
 workedAt w registers m = wholeOf w (gathered w registers) 8 (countOf w (gathered w registers)) (worked m 0)
 
 -- 01, Instruction words, format A: of a code, with R 01 and T 04.
@@ -44,16 +44,17 @@ abbrev pub descriptor : ℕ → ℕ → ℕ
 descriptor length base = length * 2 ^ 48 + base
 
 -- 01, The machine that the job sees: memory that begins with three bytes; the others are zero.
-abbrev pub memory : ℕ → ℕ → ℕ → ℕ
-memory r s t = num (r ∷ s ∷ t ∷ 0 ∷ 0 ∷ 0 ∷ 0 ∷ 0 ∷ [])
+abbrev pub threeBytes : ℕ → ℕ → ℕ → ℕ
+threeBytes r s t = num (r ∷ s ∷ t ∷ 0 ∷ 0 ∷ 0 ∷ 0 ∷ 0 ∷ [])
 
 -- What a row says. 8A has G bits 3 and 4, so that A and B are registers, and one item. B0 and B3 have B 4000 and Y 3.
 abbrev pub Holds : Example → Type 0
-Holds (ofContract code r t flags) = outcomeAt (wordA code) (0 ∷ r ∷ []) ≡ goesOn (HalfRegister 4 t) flags
-Holds (ofRounding code r t flags) = outcomeAt (wordA code) (0 ∷ r ∷ []) ≡ goesOn (Register 4 t) flags
+Holds (ofContract code r t flags) = outcomeAt (wordA code) (0 ∷ r ∷ []) ≡ fallsThrough (HalfRegister 4 t) flags
+Holds (ofRounding code r t flags) = outcomeAt (wordA code) (0 ∷ r ∷ []) ≡ fallsThrough (Register 4 t) flags
 Holds (ofShift a b c) = workedAt 0x8A_18_00_01_00_02_00_03 (0 ∷ a ∷ b ∷ descriptor 1 0x4000 ∷ []) 0 ≡ worked c 0
 Holds (ofBits code first second r s n t) =
-    workedAt (word7 code) (0 ∷ descriptor r 0x4000 ∷ descriptor s 0x4008 ∷ descriptor n 0x4010 ∷ []) (memory first second 0) ≡ worked (memory first second t) 0
+    workedAt (word7 code) (0 ∷ descriptor r 0x4000 ∷ descriptor s 0x4008 ∷ descriptor n 0x4010 ∷ []) (threeBytes first second 0)
+    ≡ worked (threeBytes first second t) 0
 Holds (ofBranch w a c taken) =
     outcomeAt w (0 ∷ a ∷ 0x4000 ∷ 0 ∷ 3 ∷ []) ≡ record { effect = Register 3 c; flags = 0; next = cond taken (Target (record { 0 = 0x4060 })) Following }
 

@@ -18,19 +18,19 @@ abbrev pub lengthOf : ℕ → ℕ
 lengthOf w = cond (longIn w) 64 32
 
 -- the h half words at P, "a multiple of 32", are in a memory of n bytes
-abbrev pub placeOf : ℕ → ℕ → Field
-placeOf p h = fieldOf HalfWord (record { 0 = p }) h
+abbrev pub halfWordsAt : ℕ → ℕ → Field
+halfWordsAt p h = fieldOf HalfWord (record { 0 = p }) h
 
 unfoldable pub there : ℕ → ℕ → ℕ → Bool
-there p h n = aligned (placeOf p h) && inside (placeOf p h) n
+there p h n = aligned (halfWordsAt p h) && inside (halfWordsAt p h) n
 
 -- the 64 bits at P of a memory of n bytes that is the number x; those that are not in memory read as zero
-unfoldable pub wordAt : ℕ → ℕ → ℕ → ℕ
-wordAt n x p = cond (there p 2 n) (fieldIn n x p 64) (cond (there p 1 n) (fieldIn n x p 32 * 2 ^ 32) 0)
+unfoldable pub twoHalvesAt : ℕ → ℕ → ℕ → ℕ
+twoHalvesAt n x p = cond (there p 2 n) (fieldIn n x p 64) (cond (there p 1 n) (fieldIn n x p 32 * 2 ^ 32) 0)
 
 -- "the word (a 32-bit one in the left half, zeros right)"
 unfoldable pub fetchOf : ℕ → ℕ → ℕ → ℕ
-fetchOf n x p = cond (longIn (wordAt n x p)) (wordAt n x p) (wordAt n x p / 2 ^ 32 * 2 ^ 32)
+fetchOf n x p = cond (longIn (twoHalvesAt n x p)) (twoHalvesAt n x p) (twoHalvesAt n x p / 2 ^ 32 * 2 ^ 32)
 
 -- 4: "first 32 bits at P not in memory, or the code there is a listed 64-bit one and the next 32 are not"
 unfoldable pub unfetchedAt : ℕ → Bool → ℕ → Bool

@@ -1,18 +1,22 @@
 -- An instruction as the layer above sees it, whatever it is: whether it goes by items, how many, what those do one by one and all at once, and what any other does
 -- in its one step. Memory is one number of so many bytes. Assumes nothing.
-use mathlib.Core.Bool.{Bool, not, _&&_}
+use mathlib.Core.Path.{_≡_}
+use mathlib.Core.Bool.{Bool, true, not, _&&_}
 use mathlib.Core.List.{List}
-use Prim.Native.Nat.{ℕ, _*_}
+use Prim.Native.Nat.{ℕ, _+_, _*_, _≤_}
 use lib.Bits.{bitOr}
 use lib.Dec.{eqb}
+use lib.ListN.{length}
+use Rattle.fields.specs.Bytes.{num}
+use Rattle.fields.specs.Memory.{rightLength}
 use Rattle.instructions.specs.declared.operands.Operands.{Operands}
 use Rattle.instructions.specs.declared.effects.Outcome.{Outcome}
 use Rattle.instructions.specs.Meanings.{goesByItems}
 use Rattle.instructions.specs.Operands.{meaningIn}
 use Rattle.instructions.specs.Fetch.{lengthOf}
 use Rattle.instructions.specs.Verdict.{verdictOf}
-use Rattle.instructions.specs.Items.{Worked, worked, turns, whole}
-use Rattle.instructions.specs.Plan.{Plan, shape, itemsOf}
+use Rattle.instructions.specs.Items.{MemoryAndFlags, worked, turns, whole}
+use Rattle.instructions.specs.Plan.{Plan, shapeOf, itemsOf}
 use Rattle.instructions.specs.Planned.{planIn}
 use Rattle.instructions.specs.Effects.{registersAfter, memoryAfter, nextP}
 use Rattle.instructions.specs.Scalars.{scalarOf}
@@ -38,12 +42,12 @@ abbrev pub countOf : ℕ → Operands → ℕ
 countOf w o = itemsOf (planOf w o)
 
 -- 01, Steps: items from, .., from + count - 1, one after another.
-unfoldable pub worksOf : ℕ → Operands → ℕ → ℕ → ℕ → Worked → Worked
-worksOf w o bytes from count x = turns (shape (planOf w o)) (8 * bytes) from count x
+unfoldable pub worksOf : ℕ → Operands → ℕ → ℕ → ℕ → MemoryAndFlags → MemoryAndFlags
+worksOf w o bytes from count x = turns (shapeOf (planOf w o)) (8 * bytes) from count x
 
 -- 01, Steps: the instruction as a whole, cut after k items: all at once, from its sources as they stood when it began.
-unfoldable pub wholeOf : ℕ → Operands → ℕ → ℕ → Worked → Worked
-wholeOf w o bytes k x = whole (shape (planOf w o)) (8 * bytes) k x
+unfoldable pub wholeOf : ℕ → Operands → ℕ → ℕ → MemoryAndFlags → MemoryAndFlags
+wholeOf w o bytes k x = whole (shapeOf (planOf w o)) (8 * bytes) k x
 
 -- Memory, registers, P and flags.
 pub record Done : Type 0 where
@@ -52,14 +56,26 @@ pub record Done : Type 0 where
   pub p : ℕ
   pub flags : ℕ
 
-abbrev pub done : ℕ → List ℕ → ℕ → ℕ → Done
-done m r p f = record { memory = m; registers = r; p = p; flags = f }
+abbrev pub leaving : ℕ → List ℕ → ℕ → ℕ → Done
+leaving m r p f = record { memory = m; registers = r; p = p; flags = f }
 
 -- An outcome, applied.
 abbrev pub doneBy : Outcome → ℕ → ℕ → ℕ → ℕ → List ℕ → ℕ → Done
 doneBy u p bits bytes m r f =
-    done (memoryAfter (u .effect) (8 * bytes) m) (registersAfter (u .effect) r) (nextP p bits (u .next)) (bitOr f (u .flags))
+    leaving (memoryAfter (u .effect) (8 * bytes) m) (registersAfter (u .effect) r) (nextP p bits (u .next)) (bitOr f (u .flags))
 
 -- 01, Steps: "Every other takes one".
 unfoldable pub actsOf : ℕ → ℕ → Operands → ℕ → ℕ → List ℕ → ℕ → Done
 actsOf p w o bytes m r f = doneBy (scalarOf w o bytes m) p (lengthOf w) bytes m r f
+
+-- Items from, .., from + count - 1 of a word may be worked: no check refuses it, and it has them.
+abbrev pub Workable : ℕ → ℕ → Operands → ℕ → ℕ → ℕ → Type 0
+Workable p w o bytes from count = (rightLength bytes ≡ true) × (verdictOf p w o bytes ≡ 0) × (byItems w ≡ true) × (from + count ≤ countOf w o)
+
+-- m' and f' are what the lent bytes m and the flags f come to by those items.
+abbrev pub WorksTo : ℕ → Operands → ℕ → ℕ → List ℕ → ℕ → List ℕ → ℕ → Type 0
+WorksTo w o from count m f m' f' = (length m' ≡ length m) × (worked (num m') f' ≡ worksOf w o (length m) from count (worked (num m) f))
+
+-- m', r', P and f' are what the lent bytes m, the registers r, p and the flags f come to by the one step of any other.
+abbrev pub ActsTo : ℕ → ℕ → Operands → List ℕ → List ℕ → ℕ → List ℕ → List ℕ → ℕ → ℕ → Type 0
+ActsTo p w o m r f m' r' p' f' = (length m' ≡ length m) × (leaving (num m') r' p' f' ≡ actsOf p w o (length m) (num m) r f)

@@ -53,20 +53,20 @@ unfoldable pub flagsAt : Shape → ℕ → ℕ → ℕ → ℕ
 flagsAt s L i x = cond (storedAt s L i x) (madeAt s L i x .flags) 0
 
 -- 01, Steps: memory and flags.
-pub record Worked : Type 0 where
+pub record MemoryAndFlags : Type 0 where
   pub memory : ℕ
   pub flags : ℕ
 
-abbrev pub worked : ℕ → ℕ → Worked
+abbrev pub worked : ℕ → ℕ → MemoryAndFlags
 worked x f = record { memory = x; flags = f }
 
 -- 01, Steps: item i is worked. Flags are "set and never cleared".
-abbrev pub turn : Shape → ℕ → ℕ → Worked → Worked
+abbrev pub turn : Shape → ℕ → ℕ → MemoryAndFlags → MemoryAndFlags
 turn s L i w =
     worked (store L (resultAt s i) (s .width) (itemAt s L i (w .memory)) (w .memory)) (bitOr (w .flags) (flagsAt s L i (w .memory)))
 
 -- 01, Steps: k items from item `from` on, each on what the ones before it left.
-abbrev pub turns : Shape → ℕ → ℕ → ℕ → Worked → Worked
+abbrev pub turns : Shape → ℕ → ℕ → ℕ → MemoryAndFlags → MemoryAndFlags
 turns s L from zero w = w
 turns s L from (suc k) w = turn s L (from + k) (turns s L from k w)
 
@@ -77,7 +77,7 @@ flagsTogether s L (suc k) x f = bitOr (flagsTogether s L k x f) (flagsAt s L k x
 
 -- 01, Steps: "exactly that many items worked, from the first on, and nothing of the later ones": the instruction as a whole, cut after k items. Its
 -- result field holds the first k items side by side, each made of the memory as it stood at the start; all else is as it was.
-abbrev pub whole : Shape → ℕ → ℕ → Worked → Worked
+abbrev pub whole : Shape → ℕ → ℕ → MemoryAndFlags → MemoryAndFlags
 whole s L k w =
     worked (store L (s .result) (k * s .width) (sideBySide (s .width) (itemAt s L) k (w .memory)) (w .memory)) (flagsTogether s L k (w .memory) (w .flags))
 

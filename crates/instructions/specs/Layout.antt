@@ -3,34 +3,19 @@ use mathlib.Core.Bool.{Bool, true, false, cond, not, _&&_, _||_}
 use Prim.Native.Nat.{ℕ, min}
 use lib.Dec.{eqb, ltb}
 use Rattle.numbers.specs.Words.{low48}
-use Rattle.fields.specs.declared.units.BitAddress.{BitAddress}
 use Rattle.fields.specs.declared.extents.Unit as U
 use Rattle.fields.specs.declared.extents.Unit.the-variants.{Bit, Byte, HalfWord, Word}
 use Rattle.fields.specs.declared.extents.Field.{Field}
 use Rattle.fields.specs.declared.gathers.Runs.{Runs}
 use Rattle.fields.specs.Field.{field}
-use Rattle.fields.specs.Units.{inBits, formed}
-use Rattle.fields.specs.Extents.{unitShift, fieldOf, absentField}
+use Rattle.fields.specs.Extents.{fieldOf, absentField}
 use Rattle.fields.specs.Gathers.{compressItems, mergeItems, compressR, mergeR, mergeS, maskR, maskS}
 use Rattle.instructions.specs.declared.operands.Operands.{Operands}
 use Rattle.instructions.specs.declared.layout.Fields.{Fields}
-use Rattle.instructions.specs.Operands.{foundIn, rowSays, gBit, R, S, T}
+use Rattle.instructions.specs.Operands.{foundIn, rowSays, gBit, R, S, T, lengthIn, baseIn, indexed, addressIn}
 use Rattle.instructions.specs.Branches.{takenOf, targetOf}
 use Rattle.instructions.specs.declared.table.Kind.{Kind}
 use Rattle.instructions.specs.Table.{kindOf}
-
--- ---- a register that places a field
-
--- "A field descriptor is a register: length in the left 16 bits, base address in the right 48"
-abbrev pub lengthIn : ℕ → ℕ
-lengthIn d = field 64 0 16 d
-
-abbrev pub baseIn : ℕ → BitAddress
-baseIn d = record { 0 = low48 d }
-
--- "at R plus S bytes", "plus X bytes", "plus S words": an index counts its unit; "formed addresses wrap at 2^48"
-abbrev pub indexed : U.Unit → ℕ → ℕ → BitAddress
-indexed u d index = record { 0 = formed d (inBits (unitShift u) index) }
 
 -- the fields of an instruction that goes nowhere
 abbrev pub fieldsAt : Field → Field → Field → Field → Bool → Fields
@@ -44,8 +29,8 @@ noFields = fieldsAt absentField absentField absentField absentField false
 -- ---- 12, 13, 7E, 7F
 
 -- "at R plus S bytes", "at R plus S words"
-abbrev pub itemAt : U.Unit → Operands → Field
-itemAt u o = fieldOf u (indexed u (R o) (S o)) 1
+abbrev pub addressedItem : U.Unit → Operands → Field
+addressedItem u o = fieldOf u (addressIn u o) 1
 
 -- "load (rest of T cleared) .. a byte", "load .. word T"
 abbrev pub loadAt : Field → Fields
@@ -124,8 +109,8 @@ moveOf o =
 -- ---- compare and branch
 
 -- no field; where it goes to if it is taken
-abbrev pub branchOf : ℕ → Operands → Fields
-branchOf w o =
+abbrev pub branchFields : ℕ → Operands → Fields
+branchFields w o =
     record { result = absentField; first = absentField; second = absentField; control = absentField; short = false; taken = takenOf w o; target = targetOf o }
 
 -- ---- by what the table says that the designators mean
@@ -133,11 +118,11 @@ branchOf w o =
 unfoldable pub ofKind : Kind → ℕ → Operands → Fields
 ofKind Kind.Exit w o = noFields
 ofKind Kind.Register w o = noFields
-ofKind Kind.Branch w o = branchOf w o
-ofKind Kind.LoadByte w o = loadAt (itemAt Byte o)
-ofKind Kind.StoreByte w o = storeAt (itemAt Byte o)
-ofKind Kind.LoadWord w o = loadAt (itemAt Word o)
-ofKind Kind.StoreWord w o = storeAt (itemAt Word o)
+ofKind Kind.Branch w o = branchFields w o
+ofKind Kind.LoadByte w o = loadAt (addressedItem Byte o)
+ofKind Kind.StoreByte w o = storeAt (addressedItem Byte o)
+ofKind Kind.LoadWord w o = loadAt (addressedItem Word o)
+ofKind Kind.StoreWord w o = storeAt (addressedItem Word o)
 ofKind Kind.Compress w o = compressOf o
 ofKind Kind.Merge w o = mergeOf o
 ofKind Kind.Mask w o = maskOf o

@@ -11,9 +11,7 @@ pub mod Effects
 pub mod Scalars
 pub mod Items
 pub mod Plan
-pub mod Accepted
-pub mod Inner
-pub mod Loops
 pub mod Planned
 pub mod Instruction
 pub mod Examples
+pub mod Private

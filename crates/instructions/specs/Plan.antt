@@ -37,8 +37,8 @@ senseOf Every = 1
 senseOf (Where z ones) = cond ones 1 0
 
 -- 01, Vectors: a vector of words, its result items w bits wide.
-abbrev pub vector : Source → Source → Control → ℕ → ℕ → (ℕ → ℕ → Made) → Shape
-vector a b z c w f =
+abbrev pub vectorShape : Source → Source → Control → ℕ → ℕ → (ℕ → ℕ → Made) → Shape
+vectorShape a b z c w f =
     record {
       first = sourceItem a;
       second = sourceItem b;
@@ -53,8 +53,8 @@ vector a b z c w f =
 -- ---- bits and bytes
 
 -- 01, Bit fields, Move: items of w bits, each taken from one place; all are stored.
-abbrev pub taken : ℕ → ℕ → (ℕ → Place) → Shape
-taken c w from =
+abbrev pub takenShape : ℕ → ℕ → (ℕ → Place) → Shape
+takenShape c w from =
     record {
       first = from;
       second = λ i. fixed 0;
@@ -95,10 +95,10 @@ pub data Plan : Type 0 where
   byteMove : MovePlan → Plan
 
 -- 01, Vectors, Bit fields, Move: the items of a plan.
-unfoldable pub shape : Plan → Shape
-shape (vectors v w f) = vector (v .first) (v .second) (v .control) (v .result) w f
-shape (bitRuns b) = taken (b .result) 1 (λ j. bitOf (b .first) (b .second) (takenBy (b .rule) (b .runs) j))
-shape (byteMove v) = taken (v .result) 8 (byteOf (v .source) (v .length) (v .fill))
+unfoldable pub shapeOf : Plan → Shape
+shapeOf (vectors v w f) = vectorShape (v .first) (v .second) (v .control) (v .result) w f
+shapeOf (bitRuns b) = takenShape (b .result) 1 (λ j. bitOf (b .first) (b .second) (takenBy (b .rule) (b .runs) j))
+shapeOf (byteMove v) = takenShape (v .result) 8 (byteOf (v .source) (v .length) (v .fill))
 
 -- 01, Bit fields: "Compress with r or n zero, and the others with r, s or n zero, do nothing".
 abbrev pub bitItems : Rule → Runs → ℕ

@@ -17,9 +17,9 @@ use Rattle.instructions.specs.declared.items.Rule.{Rule}
 use Rattle.instructions.specs.declared.items.SecondBits.{SecondBits}
 use Rattle.instructions.specs.declared.items.SecondBits.the-variants.{From, Zeros}
 use Rattle.instructions.specs.Meanings.{plain, Work, gathers, eachOfAB, eachOfA, halfOfA, moves, Meaning, unlisted, exits, acts, branches, works}
-use Rattle.instructions.specs.Operands.{gBit, R, S, T}
+use Rattle.instructions.specs.Operands.{gBit, R, S, T, lengthIn, indexed}
 use Rattle.instructions.specs.Plan.{Plan, vectors, bitRuns, byteMove}
-use Rattle.instructions.specs.Layout.{lengthIn, indexed, runsOf}
+use Rattle.instructions.specs.Layout.{runsOf}
 use Rattle.fields.specs.declared.extents.Unit.the-variants.{Byte}
 
 -- The bits of memory left of an address.

@@ -62,45 +62,45 @@ pub record Line : Type 0 where
   pub named : ℕ
   pub means : Meaning
 
-abbrev pub line : ℕ → ℕ → ℕ → ℕ → ℕ → Meaning → Line
-line k f g z n m = record { code = k; format = f; allowed = g; zeros = z; named = n; means = m }
+abbrev pub lineOf : ℕ → ℕ → ℕ → ℕ → ℕ → Meaning → Line
+lineOf k f g z n m = record { code = k; format = f; allowed = g; zeros = z; named = n; means = m }
 
 -- 01, table, format 4: T of R and S.
 abbrev pub threeRegisters : ℕ → (ℕ → ℕ → ℕ) → Line
-threeRegisters k f = line k 0x4 0 0 (atR + atS + atT) (acts (toT (λ r s. plain (f r s))))
+threeRegisters k f = lineOf k 0x4 0 0 (atR + atS + atT) (acts (toT (λ r s. plain (f r s))))
 
 -- 01, table, format A: T of R, "eight zero bits" in the place of S; T a half word.
 abbrev pub twoRegisters : ℕ → (ℕ → Made) → Line
-twoRegisters k f = line k 0xA 0 atS (atR + atT) (acts (toT (λ r s. f r)))
+twoRegisters k f = lineOf k 0xA 0 atS (atR + atT) (acts (toT (λ r s. f r)))
 
-abbrev pub toHalfRegister : ℕ → (ℕ → Made) → Line
-toHalfRegister k f = line k 0xA 0 atS (atR + atHalfT) (acts (toHalfT (λ r s. f r)))
+abbrev pub twoRegistersHalf : ℕ → (ℕ → Made) → Line
+twoRegistersHalf k f = lineOf k 0xA 0 atS (atR + atHalfT) (acts (toHalfT (λ r s. f r)))
 
 -- 01, table, format 7: T and an address, R plus S; bit fields R, S, T.
 abbrev pub addressed : ℕ → Act → Line
-addressed k a = line k 0x7 0 0 (atR + atS + atT) (acts a)
+addressed k a = lineOf k 0x7 0 0 (atR + atS + atT) (acts a)
 
 abbrev pub bitFields : ℕ → Rule → Line
-bitFields k rule = line k 0x7 0 0 (atR + atS + atT) (works (gathers rule))
+bitFields k rule = lineOf k 0x7 0 0 (atR + atS + atT) (works (gathers rule))
 
 -- 01, Vectors: "G bits allowed: 1, 3, 4 for 83, 87, 8A; 1, 3 for 90-92, 98; 1 for 96, 97. X and Y are zero (house); so is B where only A is used."
 abbrev pub vectorTwo : ℕ → (ℕ → ℕ → ℕ) → Line
-vectorTwo k f = line k 0x1 (G 1 + G 3 + G 4) (atX + atY) (atA + atB + atC) (works (eachOfAB (λ a b. plain (f a b))))
+vectorTwo k f = lineOf k 0x1 (G 1 + G 3 + G 4) (atX + atY) (atA + atB + atC) (works (eachOfAB (λ a b. plain (f a b))))
 
 abbrev pub vectorOne : ℕ → (ℕ → Made) → Line
-vectorOne k f = line k 0x1 (G 1 + G 3) (atX + atY + atB) (atA + atC) (works (eachOfA f))
+vectorOne k f = lineOf k 0x1 (G 1 + G 3) (atX + atY + atB) (atA + atC) (works (eachOfA f))
 
 abbrev pub vectorHalf : ℕ → (ℕ → Made) → Line
-vectorHalf k f = line k 0x1 (G 1) (atX + atY + atB) (atA + atC) (works (halfOfA f))
+vectorHalf k f = lineOf k 0x1 (G 1) (atX + atY + atB) (atA + atC) (works (halfOfA f))
 
 -- 01, Compare and branch: "unsigned with G bit 4; other G bits zero (house)"; 00 has a meaning for A, X, Y and Z.
 abbrev pub addBranch : ℕ → (Bool → ℕ → ℕ → Bool) → Line
-addBranch k c = line k 0xC (G 4) 0 (atB + atC) (branches c)
+addBranch k c = lineOf k 0xC (G 4) 0 (atB + atC) (branches c)
 
 -- 01, the table.
 abbrev pub table : List Line
 table =
-    line 0x09 0x4 0 (atR + atS + atT) 0 exits ∷  -- exit
+    lineOf 0x09 0x4 0 (atR + atS + atT) 0 exits ∷  -- exit
     addressed 0x12 loadsByte ∷  -- load byte
     addressed 0x13 storesByte ∷  -- store byte
     bitFields 0x14 Rule.Compress ∷  -- bit compress
@@ -114,8 +114,8 @@ table =
     twoRegisters 0x70 (λ r. ofWord (truncateOf r)) ∷  -- truncate
     twoRegisters 0x71 (λ r. ofWord (floorOf r)) ∷  -- floor
     twoRegisters 0x72 (λ r. ofWord (ceilingOf r)) ∷  -- ceiling
-    toHalfRegister 0x76 (λ r. ofHalf (contractOf false r)) ∷  -- contract
-    toHalfRegister 0x77 (λ r. ofHalf (contractOf true r)) ∷  -- rounded contract
+    twoRegistersHalf 0x76 (λ r. ofHalf (contractOf false r)) ∷  -- contract
+    twoRegistersHalf 0x77 (λ r. ofHalf (contractOf true r)) ∷  -- rounded contract
     twoRegisters 0x78 (λ r. plain r) ∷  -- transmit
     twoRegisters 0x7A (λ r. plain (exponentWord r)) ∷  -- exponent
     threeRegisters 0x7B packedOf ∷  -- pack
@@ -137,7 +137,7 @@ table =
     addBranch 0xB3 (λ u m n. less u m n) ∷  -- add, branch if less
     addBranch 0xB4 (λ u m n. not (less u n m)) ∷  -- add, branch if less or equal
     addBranch 0xB5 (λ u m n. less u n m) ∷  -- add, branch if greater
-    line 0xF8 0x3 0 atY (atA + atC) (works moves) ∷  -- move bytes left
+    lineOf 0xF8 0x3 0 atY (atA + atC) (works moves) ∷  -- move bytes left
     []
 
 -- ---- rows: what the code's own table has of a line
@@ -168,8 +168,8 @@ abbrev pub long : ℕ → Bool
 long f = eqb f 0x1 || eqb f 0x3 || eqb f 0xC
 
 -- 01, table: format 1 is that of the vector instructions.
-abbrev pub vector : ℕ → Bool
-vector f = eqb f 0x1
+abbrev pub vectorFormat : ℕ → Bool
+vectorFormat f = eqb f 0x1
 
 -- 01, 6: the bits that are to be zero: designators, and the G bits that are not allowed or, in a 32-bit word, the right half.
 abbrev pub zeroBits : Row → ℕ

@@ -65,37 +65,37 @@ overlapping f = clash (f .result) (f .first) || (clash (f .result) (f .second) |
 -- ---- the list
 
 -- a number of "What a call says", and when it refuses
-pub record Check : Type 0 where
+pub record NumberedCheck : Type 0 where
   pub number : ℕ
   pub refuses : Case → Bool
 
 -- the check of a number
-abbrev pub check : ℕ → (Case → Bool) → Check
+abbrev pub check : ℕ → (Case → Bool) → NumberedCheck
 check n p = record { number = n; refuses = p }
 
 -- 5 to 7, which ask the word alone
-abbrev pub wordChecks : List Check
+abbrev pub wordChecks : List NumberedCheck
 wordChecks = check 5 notListed ∷ check 6 strayBit ∷ check 7 noMeaning ∷ []
 
 -- 8 to 11, which ask its fields
-abbrev pub fieldChecks : List Check
+abbrev pub fieldChecks : List NumberedCheck
 fieldChecks =
     check 8 (λ c. misaligned (c .fields)) ∷ check 9 (λ c. c .fields .short) ∷
     check 10 (λ c. outside (c .fields) (c .bytes)) ∷ check 11 (λ c. overlapping (c .fields)) ∷ []
 
 -- "Checked in this order: .. 1 and 4 to 11 at each instruction (1 after 4; a 09 with operands is 6)"
-abbrev pub checks : List Check
+abbrev pub checks : List NumberedCheck
 checks = check 4 notInMemory ∷ (wordChecks ++ (check 1 atExit ∷ fieldChecks))
 
 -- the number of the first that refuses, 0 if none does
-abbrev pub first : List Check → Case → ℕ
-first [] c = 0
-first (k ∷ ks) c = cond (k .refuses c) (k .number) (first ks c)
+abbrev pub firstNumber : List NumberedCheck → Case → ℕ
+firstNumber [] c = 0
+firstNumber (k ∷ ks) c = cond (k .refuses c) (k .number) (firstNumber ks c)
 
 -- the word w at P with the operands o, in n bytes of memory
-abbrev pub case : ℕ → ℕ → Operands → ℕ → Case
-case p w o n = record { p = p; word = w; row = foundIn w; fields = fieldsOf w o; bytes = n }
+abbrev pub caseOf : ℕ → ℕ → Operands → ℕ → Case
+caseOf p w o n = record { p = p; word = w; row = foundIn w; fields = fieldsOf w o; bytes = n }
 
 -- the verdict; it depends on P, the word, the operands and the memory's length alone
 unfoldable pub verdictOf : ℕ → ℕ → Operands → ℕ → ℕ
-verdictOf p w o n = first checks (case p w o n)
+verdictOf p w o n = firstNumber checks (caseOf p w o n)

@@ -8,8 +8,8 @@ ghost use Rattle.fields.specs.Field.{field, store};
 ghost use Rattle.fields.specs.Bytes.{num, size};
 ghost use Rattle.fields.specs.Memory.{Kept};
 ghost use Rattle.instructions.specs.Items.{valueAt};
-ghost use Rattle.instructions.specs.Plan.{taken};
-ghost use Rattle.instructions.specs.Loops.{Done, Room, RoomFor, sidesOf, periodOf, cursorAt, cursorOn, leftAt, standsAt, wovenAt, Paced, ReadyBits, Chunk, spreadOf, bothIn, spanR, spanS, periodsOf};
+ghost use Rattle.instructions.specs.Plan.{takenShape};
+ghost use Rattle.instructions.specs.Private.Loops.{TurnedQuietly, Room, RoomFor, sidesOf, periodOf, cursorAt, cursorOn, leftAt, standsAt, wovenAt, Paced, ReadyBits, Chunk, spreadOf, frontOf, backOf, gatherShape, bothIn, spanR, spanS, periodsOf};
 use crate::items::BitPlan;
 use crate::items::Rule;
 use crate::items::SecondBits;
@@ -226,7 +226,7 @@ fn next_bits(m: &[u8], some: bool, p: Period, u: Cursor, n: u64) -> u64
 // The loop of all three. A run ends with the one of R or of S, with the items asked for, or with an aligned word of the result.
 fn weave(m: &mut [u8], sides: Sides, p: Period, c: usize, from: usize, count: usize)
     requires { ⌜ ReadyBits (now m) sides p c (from + count) × Paced p ⌝ }
-    ensures { λ r. ⌜ Done (taken c 1 (wovenAt sides p)) from count (now (m .entry)) (now (m .exit)) ⌝ }
+    ensures { λ r. ⌜ TurnedQuietly (takenShape c 1 (wovenAt sides p)) from count (now (m .entry)) (now (m .exit)) ⌝ }
 {
     let mut u = Cursor::at(sides, p, from);
     let mut done: usize = 0;
@@ -302,7 +302,7 @@ fn periods(
     s: usize,
     t: usize,
 ) -> u64
-    requires { ⌜ Paced p × Chunk p t × Room (now m) r (spanR p t) × (both ≡ true → Room (now m) s (spanS p t)) × (front ≡ spreadOf (2 ^ p .head - 1) 0 (p .head) (p .bits) t t) × (back ≡ spreadOf (2 ^ (p .bits - p .head) - 1) 0 (p .bits - p .head) (p .bits) t t) ⌝ }
+    requires { ⌜ Paced p × Chunk p t × Room (now m) r (spanR p t) × (both ≡ true → Room (now m) s (spanS p t)) × (front ≡ frontOf p t) × (back ≡ backOf p t) ⌝ }
     ensures { λ v. ⌜ v ≡ periodsOf (size (now (m .entry))) both p r s t (num (now (m .entry))) ⌝ }
 {
     let tail = p.bits - p.head;
@@ -328,7 +328,7 @@ fn by_periods(
     count: usize,
 ) -> usize
     requires { ⌜ ReadyBits (now m) sides p c (from + count) × Paced p × Chunk p t × (from % p .bits ≡ 0) ⌝ }
-    ensures { λ r. ⌜ (r ≤ count) × Done (taken c 1 (wovenAt sides p)) from r (now (m .entry)) (now (m .exit)) ⌝ }
+    ensures { λ r. ⌜ (r ≤ count) × TurnedQuietly (takenShape c 1 (wovenAt sides p)) from r (now (m .entry)) (now (m .exit)) ⌝ }
 {
     let n = t * p.bits;
     let front = all_ones(p.head, p.bits, t);
@@ -351,7 +351,7 @@ fn by_periods(
 // Bits to the end of a period, then several periods at once, then the rest.
 fn in_periods(m: &mut [u8], sides: Sides, p: Period, c: usize, t: usize, from: usize, count: usize)
     requires { ⌜ ReadyBits (now m) sides p c (from + count) × Paced p × Chunk p t × (64 ≤ count) ⌝ }
-    ensures { λ r. ⌜ Done (taken c 1 (wovenAt sides p)) from count (now (m .entry)) (now (m .exit)) ⌝ }
+    ensures { λ r. ⌜ TurnedQuietly (takenShape c 1 (wovenAt sides p)) from count (now (m .entry)) (now (m .exit)) ⌝ }
 {
     let lead = p.bits - from % p.bits;
     weave(m, sides, p, c, from, lead);
@@ -382,7 +382,7 @@ fn at_once(p: Period, w: usize, count: usize) -> bool
 // Items from..from + count of a period's rule, the shorter way.
 fn woven(m: &mut [u8], sides: Sides, p: Period, c: usize, from: usize, count: usize)
     requires { ⌜ ReadyBits (now m) sides p c (from + count) × Paced p ⌝ }
-    ensures { λ r. ⌜ Done (taken c 1 (wovenAt sides p)) from count (now (m .entry)) (now (m .exit)) ⌝ }
+    ensures { λ r. ⌜ TurnedQuietly (takenShape c 1 (wovenAt sides p)) from count (now (m .entry)) (now (m .exit)) ⌝ }
 {
     let w = larger(p.bits, larger(p.first, p.second));
     if at_once(p, w, count) {
@@ -395,7 +395,7 @@ fn woven(m: &mut [u8], sides: Sides, p: Period, c: usize, from: usize, count: us
 // Items from..from + count of a compress, merge or mask.
 pub fn gather(m: &mut [u8], plan: BitPlan, from: usize, count: usize)
     requires { ⌜ ReadyBits (now m) (sidesOf (plan .first) (plan .second)) (periodOf (plan .rule) (plan .runs)) (plan .result) (from + count) ⌝ }
-    ensures { λ r. ⌜ Done (taken (plan .result) 1 (wovenAt (sidesOf (plan .first) (plan .second)) (periodOf (plan .rule) (plan .runs)))) from count (now (m .entry)) (now (m .exit)) ⌝ }
+    ensures { λ r. ⌜ TurnedQuietly (gatherShape plan) from count (now (m .entry)) (now (m .exit)) ⌝ }
 {
     let second = plan.second;
     let rule = plan.rule;

@@ -83,5 +83,5 @@ pub fn branch(word: u64, o: Operands) -> Outcome
             next: Next::Target(target(o)),
         };
     }
-    Outcome::goes_on(effect, 0)
+    Outcome::falls_through(effect, 0)
 }

@@ -2,10 +2,9 @@
 ghost use mathlib.Core.Path.{_≡_};
 ghost use lib.ListN.{length};
 ghost use Rattle.fields.specs.Field.{store};
-ghost use Rattle.instructions.specs.Effects.{halfAt, withHalf, Reaches, Applied, goesOn, nextP};
+ghost use Rattle.instructions.specs.Effects.{halfAt, withHalf, Reaches, Applied, fallsThrough};
 use fields::memory;
 use fields::units::BitAddress;
-use fields::units::BitCount;
 
 // What changes. Numbers of registers are those of the word's designators.
 pub enum Effect {
@@ -30,25 +29,13 @@ pub struct Outcome {
 
 impl Outcome {
     // An effect with the flags that it raises; the word that follows is next.
-    pub fn goes_on(effect: Effect, flags: u64) -> Outcome
-        ensures { λ r. ⌜ r ≡ goesOn effect flags ⌝ }
+    pub fn falls_through(effect: Effect, flags: u64) -> Outcome
+        ensures { λ r. ⌜ r ≡ fallsThrough effect flags ⌝ }
     {
         Outcome {
             effect,
             flags,
             next: Next::Following,
-        }
-    }
-}
-
-impl Next {
-    // The next P, of a word of so many bits at p.
-    pub fn address(self, p: BitAddress, bits: BitCount) -> BitAddress
-        ensures { λ r. ⌜ r .0 ≡ nextP (p .0) (bits .0) self ⌝ }
-    {
-        match self {
-            Next::Following => p.plus(bits),
-            Next::Target(target) => target,
         }
     }
 }

@@ -3,7 +3,7 @@ ghost use mathlib.Core.Path.{_≡_};
 ghost use Prim.Native.Nat.{_≤_, _<_};
 ghost use lib.ListN.{length};
 ghost use Rattle.fields.specs.Bytes.{num};
-ghost use Rattle.instructions.specs.Fetch.{longIn, lengthOf, there, wordAt, fetchOf, unfetchedAt};
+ghost use Rattle.instructions.specs.Fetch.{longIn, lengthOf, there, twoHalvesAt, fetchOf, unfetchedAt};
 use crate::operands::code_in;
 use crate::table;
 use crate::table::Found;
@@ -54,7 +54,7 @@ fn there(p: BitAddress, half_words: u64, lent: ByteCount) -> bool
 
 // The 64 bits at P, with zeros for those that are not in memory.
 fn word_at(memory: &[u8], p: BitAddress) -> u64
-    ensures { λ r. ⌜ r ≡ wordAt (length (now (memory .entry))) (num (now (memory .entry))) (p .0) ⌝ }
+    ensures { λ r. ⌜ r ≡ twoHalvesAt (length (now (memory .entry))) (num (now (memory .entry))) (p .0) ⌝ }
 {
     let lent = ByteCount(memory.len() as u64);
     if there(p, 2, lent) {

@@ -1,15 +1,11 @@
 // An instruction as the layer above sees it: whether it goes by items, how many, their work, and the one step of any other.
 ghost use mathlib.Core.Path.{_≡_};
-ghost use mathlib.Core.Bool.{true, false};
-ghost use Prim.Native.Nat.{_+_, _≤_};
+ghost use mathlib.Core.Bool.{false};
 ghost use lib.ListN.{length};
-ghost use Rattle.fields.specs.Bytes.{num};
-ghost use Rattle.fields.specs.Memory.{rightLength};
-ghost use Rattle.instructions.specs.Items.{worked};
 ghost use Rattle.instructions.specs.Fetch.{lengthOf};
 ghost use Rattle.instructions.specs.Verdict.{verdictOf};
 ghost use Rattle.instructions.specs.Effects.{nextP};
-ghost use Rattle.instructions.specs.Instruction.{byItems, countOf, worksOf, done, actsOf};
+ghost use Rattle.instructions.specs.Instruction.{byItems, countOf, Workable, WorksTo, ActsTo};
 use crate::effects;
 use crate::effects::Next;
 use crate::fetch::length_of;
@@ -58,8 +54,8 @@ pub fn work(
     count: u64,
     flags: u64,
 ) -> u64
-    requires { ⌜ (rightLength (length (now memory)) ≡ true) × (verdictOf p word o (length (now memory)) ≡ 0) × (byItems word ≡ true) × (from + count ≤ countOf word o) ⌝ }
-    ensures { λ r. ⌜ (length (now (memory .exit)) ≡ length (now (memory .entry))) × (worked (num (now (memory .exit))) r ≡ worksOf word o (length (now (memory .entry))) from count (worked (num (now (memory .entry))) flags)) ⌝ }
+    requires { ⌜ Workable p word o (length (now memory)) from count ⌝ }
+    ensures { λ r. ⌜ WorksTo word o from count (now (memory .entry)) flags (now (memory .exit)) r ⌝ }
 {
     if count == 0 {
         return flags;
@@ -81,7 +77,7 @@ fn next_p(next: Next, p: BitAddress, word: u64) -> BitAddress
     ensures { λ r. ⌜ r .0 ≡ nextP (p .0) (lengthOf word) next ⌝ }
 {
     match next {
-        Next::Following => next.address(p, length_of(word)),
+        Next::Following => p.plus(length_of(word)),
         Next::Target(target) => target,
     }
 }
@@ -102,7 +98,7 @@ pub fn act(
     flags: u64,
 ) -> Acted
     requires { ⌜ (verdictOf p word o (length (now memory)) ≡ 0) × (byItems word ≡ false) × (length (now registers) ≡ 256) ⌝ }
-    ensures { λ r. ⌜ (length (now (memory .exit)) ≡ length (now (memory .entry))) × (done (num (now (memory .exit))) (now (registers .exit)) (r .p) (r .flags) ≡ actsOf p word o (length (now (memory .entry))) (num (now (memory .entry))) (now (registers .entry)) flags) ⌝ }
+    ensures { λ r. ⌜ ActsTo p word o (now (memory .entry)) (now (registers .entry)) flags (now (memory .exit)) (now (registers .exit)) (r .p) (r .flags) ⌝ }
 {
     let u = scalars::scalar(word, o, &memory[..]);
     let effect = u.effect;

@@ -1,7 +1,7 @@
 // A vector by plain numbers: what its loops work with.
 ghost use mathlib.Core.Path.{_≡_};
 ghost use mathlib.Core.Bool.{cond};
-ghost use Rattle.instructions.specs.Loops.{laneOf, gatingOf, lanesFor};
+ghost use Rattle.instructions.specs.Private.Loops.{laneOf, gatingOf, lanesFor};
 use crate::items::Control;
 use crate::items::Source;
 use crate::items::VectorPlan;

@@ -2,7 +2,8 @@
 ghost use mathlib.Core.Path.{_≡_};
 ghost use Prim.Native.Nat.{min, _<_};
 ghost use Rattle.fields.specs.declared.extents.Unit.the-variants.{Byte, HalfWord, Word};
-ghost use Rattle.instructions.specs.Layout.{lengthIn, baseIn, indexed, fieldsAt, noFields, itemAt, loadAt, storeAt, sourceOf, shortOf, controlOf, resultOf, vectorOf, runsOf, zerosOf, compressOf, wovenOf, mergeOf, maskOf, moveOf, branchOf, ofKind};
+ghost use Rattle.instructions.specs.Operands.{lengthIn, baseIn, indexed};
+ghost use Rattle.instructions.specs.Layout.{fieldsAt, noFields, addressedItem, loadAt, storeAt, sourceOf, shortOf, controlOf, resultOf, vectorOf, runsOf, zerosOf, compressOf, wovenOf, mergeOf, maskOf, moveOf, branchFields, ofKind};
 use crate::branches::taken;
 use crate::branches::target;
 use crate::operands::Operands;
@@ -92,14 +93,14 @@ fn no_fields() -> Fields
 
 // 12 and 13: the byte at R plus S bytes.
 pub fn byte_at(o: Operands) -> Field
-    ensures { λ r. ⌜ r ≡ itemAt Byte o ⌝ }
+    ensures { λ r. ⌜ r ≡ addressedItem Byte o ⌝ }
 {
     Field::of_bytes(plus_bytes(o.g, o.x), ByteCount(1))
 }
 
 // 7E and 7F: the word at R plus S words.
 pub fn word_at(o: Operands) -> Field
-    ensures { λ r. ⌜ r ≡ itemAt Word o ⌝ }
+    ensures { λ r. ⌜ r ≡ addressedItem Word o ⌝ }
 {
     Field::of_words(plus_words(o.g, o.x), WordCount(1))
 }
@@ -248,7 +249,7 @@ fn moved(o: Operands) -> Fields
 }
 
 fn branch(word: u64, o: Operands) -> Fields
-    ensures { λ r. ⌜ r ≡ branchOf word o ⌝ }
+    ensures { λ r. ⌜ r ≡ branchFields word o ⌝ }
 {
     let none = Field::absent();
     let goes = taken(word, o);

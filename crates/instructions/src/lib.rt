@@ -14,9 +14,8 @@ mod effects; // what such an instruction changes, and that it is changed
 mod items; // the items of a vector, bit or move instruction: their places, and what is made of one
 mod plans; // where they are, from its word and operands
 mod works; // their work, of an instruction that the checks let pass
-mod vectors; // codes 83, 87, 8A, 90 to 92, 96 to 98
 mod lanes; // a vector by plain numbers
 mod loops; // the two loops of vectors, and what each code makes of an item
-mod forms; // a loop for each code, with control or without, with fields or values
+mod forms; // codes 83, 87, 8A, 90 to 92, 96 to 98: a loop for each, with control or without, with fields or values
 mod bitruns; // codes 14, 15, 16, by runs of bits
 mod moves; // code F8

@@ -9,7 +9,7 @@ ghost use Rattle.fields.specs.Bytes.{num, size};
 ghost use Rattle.instructions.specs.Meanings.{plain, ofWord, ofHalf};
 ghost use Rattle.instructions.specs.Items.{valueAt, Turned};
 ghost use Rattle.instructions.specs.Plan.{sourceItem, controlBit, senseOf};
-ghost use Rattle.instructions.specs.Loops.{sourceBy, controlBy, laned, InReach, Gate, makesAt, Settled};
+ghost use Rattle.instructions.specs.Private.Loops.{sourceBy, controlBy, laned, InReach, Gate, makesAt, Settled};
 use crate::items::Made;
 use crate::lanes::Gating;
 use crate::lanes::Lane;

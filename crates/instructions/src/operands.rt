@@ -2,7 +2,7 @@
 ghost use mathlib.Core.Path.{_≡_};
 ghost use Prim.Native.Nat.{_/_, _%_, _^_, _≤_, _<_};
 ghost use lib.ListN.{length};
-ghost use Rattle.instructions.specs.Operands.{codeIn, gBit, named, gathered};
+ghost use Rattle.instructions.specs.Operands.{codeIn, gBit, supplied, gathered};
 use crate::designators::designator;
 
 // What number 00 supplies. Its low 48 are zero: no index, no offset, a zero to compare with.
@@ -47,7 +47,7 @@ pub fn g_bit_4(word: u64) -> bool
 // What the register supplies that this designator names.
 fn operand(registers: &[u64], word: u64, s: u64) -> u64
     requires { ⌜ (length (now registers) ≡ 256) × (s ≤ 48) ⌝ }
-    ensures { λ r. ⌜ r ≡ named (now (registers .entry)) (word / 2 ^ s % 256) ⌝ }
+    ensures { λ r. ⌜ r ≡ supplied (now (registers .entry)) (word / 2 ^ s % 256) ⌝ }
 {
     let t = designator(word, s);
     if t == 0 {

@@ -2,10 +2,12 @@
 ghost use mathlib.Core.Path.{_≡_};
 ghost use lib.ListN.{length};
 ghost use Rattle.fields.specs.Bytes.{num};
+ghost use Rattle.fields.specs.declared.extents.Unit.the-variants as unit;
 ghost use Rattle.fields.specs.Memory.{AtByte};
 ghost use Rattle.instructions.specs.Meanings.{plain, ofWord, ofHalf};
-ghost use Rattle.instructions.specs.Scalars.{byteAt, wordAt, toRegister, toHalfRegister, loadByteOf, storeByteOf, loadWordOf, storeWordOf, scalarOf};
-ghost use Rattle.instructions.specs.Accepted.{Reached};
+ghost use Rattle.instructions.specs.Operands.{addressIn};
+ghost use Rattle.instructions.specs.Scalars.{toRegister, toHalfRegister, loadByteOf, storeByteOf, loadWordOf, storeWordOf, scalarOf};
+ghost use Rattle.instructions.specs.Private.Accepted.{AddressThere};
 use crate::branches::branch;
 use crate::designators::designator;
 use crate::effects::Effect;
@@ -24,7 +26,7 @@ use numbers::words;
 
 // R plus S bytes.
 pub fn byte_address(o: Operands) -> BitAddress
-    ensures { λ r. ⌜ r ≡ byteAt o ⌝ }
+    ensures { λ r. ⌜ r ≡ addressIn unit.Byte o ⌝ }
 {
     let base = BitAddress(o.g);
     let index = ByteCount(o.x);
@@ -33,7 +35,7 @@ pub fn byte_address(o: Operands) -> BitAddress
 
 // R plus S words.
 pub fn word_address(o: Operands) -> BitAddress
-    ensures { λ r. ⌜ r ≡ wordAt o ⌝ }
+    ensures { λ r. ⌜ r ≡ addressIn unit.Word o ⌝ }
 {
     let base = BitAddress(o.g);
     let index = WordCount(o.x);
@@ -43,13 +45,13 @@ pub fn word_address(o: Operands) -> BitAddress
 fn to_register(number: u8, value: u64) -> Outcome
     ensures { λ r. ⌜ r ≡ toRegister number (plain value) ⌝ }
 {
-    Outcome::goes_on(Effect::Register { number, value }, 0)
+    Outcome::falls_through(Effect::Register { number, value }, 0)
 }
 
 fn word_to(number: u8, result: WordResult) -> Outcome
     ensures { λ r. ⌜ r ≡ toRegister number (ofWord result) ⌝ }
 {
-    Outcome::goes_on(
+    Outcome::falls_through(
         Effect::Register {
             number,
             value: result.word,
@@ -61,7 +63,7 @@ fn word_to(number: u8, result: WordResult) -> Outcome
 fn half_to(number: u8, result: HalfWordResult) -> Outcome
     ensures { λ r. ⌜ r ≡ toHalfRegister number (ofHalf result) ⌝ }
 {
-    Outcome::goes_on(
+    Outcome::falls_through(
         Effect::HalfRegister {
             number,
             value: result.half,
@@ -72,7 +74,7 @@ fn half_to(number: u8, result: HalfWordResult) -> Outcome
 
 // Code 12.
 fn load_byte(number: u8, o: Operands, m: &[u8]) -> Outcome
-    requires { ⌜ AtByte (now m) (byteAt o .0) 8 ⌝ }
+    requires { ⌜ AtByte (now m) (addressIn unit.Byte o .0) 8 ⌝ }
     ensures { λ r. ⌜ r ≡ loadByteOf number o (length (now (m .entry))) (num (now (m .entry))) ⌝ }
 {
     let at = byte_address(o);
@@ -85,12 +87,12 @@ fn store_byte(o: Operands) -> Outcome
 {
     let at = byte_address(o);
     let value = (o.a % 256) as u8;
-    Outcome::goes_on(Effect::Byte { at, value }, 0)
+    Outcome::falls_through(Effect::Byte { at, value }, 0)
 }
 
 // Code 7E.
 fn load_word(number: u8, o: Operands, m: &[u8]) -> Outcome
-    requires { ⌜ AtByte (now m) (wordAt o .0) 64 ⌝ }
+    requires { ⌜ AtByte (now m) (addressIn unit.Word o .0) 64 ⌝ }
     ensures { λ r. ⌜ r ≡ loadWordOf number o (length (now (m .entry))) (num (now (m .entry))) ⌝ }
 {
     let at = word_address(o);
@@ -102,12 +104,12 @@ fn store_word(o: Operands) -> Outcome
     ensures { λ r. ⌜ r ≡ storeWordOf o ⌝ }
 {
     let at = word_address(o);
-    Outcome::goes_on(Effect::Word { at, value: o.a }, 0)
+    Outcome::falls_through(Effect::Word { at, value: o.a }, 0)
 }
 
 // What an instruction of one step comes to, by its code. Any other has no effect here.
 pub fn scalar(word: u64, o: Operands, m: &[u8]) -> Outcome
-    requires { ⌜ Reached word o (now m) ⌝ }
+    requires { ⌜ AddressThere word o (now m) ⌝ }
     ensures { λ r. ⌜ r ≡ scalarOf word o (length (now (m .entry))) (num (now (m .entry))) ⌝ }
 {
     let code = code_in(word);
@@ -134,6 +136,6 @@ pub fn scalar(word: u64, o: Operands, m: &[u8]) -> Outcome
         0x7E => load_word(t, o, m),
         0x7F => store_word(o),
         0xB0 | 0xB1 | 0xB2 | 0xB3 | 0xB4 | 0xB5 => branch(word, o),
-        _ => Outcome::goes_on(Effect::Nothing, 0),
+        _ => Outcome::falls_through(Effect::Nothing, 0),
     }
 }

@@ -1,7 +1,7 @@
 // The one constant table: a row for each function code, and the row of a code in constant time.
 ghost use mathlib.Core.Path.{_≡_};
-ghost use Rattle.instructions.specs.Table.{formatOf, namedOf, kindOf, vector, long, zeroBits, found, placed};
-ghost use Rattle.instructions.specs.Inner.{Stands, hasItems};
+ghost use Rattle.instructions.specs.Table.{formatOf, namedOf, kindOf, vectorFormat, long, zeroBits, found, placed};
+ghost use Rattle.instructions.specs.Private.Inner.{Stands, hasItems};
 
 // The designators, each the bits of its place in a word: F R S T of 32 bits, which stand in the left half, and F G X A Y B Z C of 64.
 const R: u64 = 0x00FF_0000_0000_0000;
@@ -228,7 +228,7 @@ impl Row {
 
     // Whether it is a vector instruction: G bit 1 and Z say what is stored.
     pub fn vector(self) -> bool
-        ensures { λ r. ⌜ r ≡ vector (formatOf self) ⌝ }
+        ensures { λ r. ⌜ r ≡ vectorFormat (formatOf self) ⌝ }
     {
         self.1 == 0x1
     }

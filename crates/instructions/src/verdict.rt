@@ -4,7 +4,7 @@ ghost use lib.ListN.{length};
 ghost use Rattle.fields.specs.Bytes.{num};
 ghost use Rattle.instructions.specs.Fetch.{fetchOf};
 ghost use Rattle.instructions.specs.Verdict.{misaligned, outside, clash, overlapping, verdictOf};
-ghost use Rattle.instructions.specs.Inner.{refusalOf, listedOf, reachedBy, arrives, oneStepOf, cutOff};
+ghost use Rattle.instructions.specs.Private.Inner.{refusalOf, listedOf, alignedInside, arrives, oneStepOf, cutOff};
 ghost use Rattle.instructions.specs.Instruction.{oneStep, mayWork};
 use crate::branches::taken;
 use crate::branches::target;
@@ -134,7 +134,7 @@ pub fn may_work(p: BitAddress, word: u64, o: Operands, lent: ByteCount) -> bool
 
 // The one field of a load or a store passes 8 and 10.
 fn reached(f: Field, lent: ByteCount) -> bool
-    ensures { λ r. ⌜ r ≡ reachedBy f (lent .0) ⌝ }
+    ensures { λ r. ⌜ r ≡ alignedInside f (lent .0) ⌝ }
 {
     f.aligned() & f.inside(lent)
 }

@@ -2,7 +2,7 @@
 ghost use mathlib.Core.Path.{_≡_};
 ghost use Prim.Native.Nat.{_+_, _/_, _%_, _^_, _≤_};
 ghost use lib.Bits.{bitAnd, bitOr};
-ghost use Rattle.instructions.specs.Words.{apart, joined, uncontrolled, notZero, missing, numberOf, decoded, reading, assembled};
+ghost use Rattle.instructions.specs.Words.{partsOf, joined, uncontrolled, notZero, missing, refusalNumber, decoded, reading, assembled};
 use crate::table::Found;
 use crate::table::Row;
 use crate::table::find;
@@ -44,7 +44,7 @@ pub enum Assembled {
 impl Refusal {
     // The number that a call says.
     pub fn number(self) -> u64
-        ensures { λ r. ⌜ r ≡ numberOf self ⌝ }
+        ensures { λ r. ⌜ r ≡ refusalNumber self ⌝ }
     {
         match self {
             Refusal::NotListed => 5,
@@ -69,7 +69,7 @@ fn byte(word: u64, s: u64) -> u8
 }
 
 fn take_apart(word: u64) -> Parts
-    ensures { λ r. ⌜ r ≡ apart word ⌝ }
+    ensures { λ r. ⌜ r ≡ partsOf word ⌝ }
 {
     Parts {
         f: byte(word, 56),

@@ -2,15 +2,15 @@
 ghost use mathlib.Core.Path.{_≡_};
 ghost use Prim.Native.Nat.{_+_, _≤_, _<_};
 ghost use Rattle.instructions.specs.Items.{Turned};
-ghost use Rattle.instructions.specs.Plan.{vectors, bitRuns, byteMove, shape, itemsOf};
-ghost use Rattle.instructions.specs.Accepted.{Ready};
-ghost use Rattle.instructions.specs.Loops.{makesAt, widthAt, Suited, lanesFor};
+ghost use Rattle.instructions.specs.Plan.{vectors, bitRuns, byteMove, shapeOf, itemsOf};
+ghost use Rattle.instructions.specs.Private.Accepted.{Ready};
+ghost use Rattle.instructions.specs.Private.Loops.{makesAt, widthAt, Suited, lanesFor};
 use crate::bitruns;
+use crate::forms;
 use crate::items::BitPlan;
 use crate::items::MovePlan;
 use crate::items::VectorPlan;
 use crate::moves;
-use crate::vectors;
 
 // Items from..from + count of the vector of a code.
 pub fn vector(
@@ -22,15 +22,15 @@ pub fn vector(
     flags: u64,
 ) -> u64
     requires { ⌜ Ready (now memory) (vectors plan (widthAt code) (makesAt code)) × (from + count ≤ plan .items) × (0 < count) × Suited code (lanesFor plan) ⌝ }
-    ensures { λ r. ⌜ Turned (shape (vectors plan (widthAt code) (makesAt code))) from count (now (memory .entry)) flags (now (memory .exit)) r ⌝ }
+    ensures { λ r. ⌜ Turned (shapeOf (vectors plan (widthAt code) (makesAt code))) from count (now (memory .entry)) flags (now (memory .exit)) r ⌝ }
 {
-    vectors::vector(memory, code, plan, from, count, flags)
+    forms::vector(memory, code, plan, from, count, flags)
 }
 
 // Items of a bit instruction, which sets no flags.
 pub fn bits(memory: &mut [u8], plan: BitPlan, from: usize, count: usize, flags: u64) -> u64
     requires { ⌜ Ready (now memory) (bitRuns plan) × (from + count ≤ itemsOf (bitRuns plan)) × (0 < count) ⌝ }
-    ensures { λ r. ⌜ Turned (shape (bitRuns plan)) from count (now (memory .entry)) flags (now (memory .exit)) r ⌝ }
+    ensures { λ r. ⌜ Turned (shapeOf (bitRuns plan)) from count (now (memory .entry)) flags (now (memory .exit)) r ⌝ }
 {
     bitruns::gather(memory, plan, from, count);
     flags
@@ -39,7 +39,7 @@ pub fn bits(memory: &mut [u8], plan: BitPlan, from: usize, count: usize, flags: 
 // Items of a move, which sets no flags either.
 pub fn moved(memory: &mut [u8], plan: MovePlan, from: usize, count: usize, flags: u64) -> u64
     requires { ⌜ Ready (now memory) (byteMove plan) × (from + count ≤ itemsOf (byteMove plan)) × (0 < count) ⌝ }
-    ensures { λ r. ⌜ Turned (shape (byteMove plan)) from count (now (memory .entry)) flags (now (memory .exit)) r ⌝ }
+    ensures { λ r. ⌜ Turned (shapeOf (byteMove plan)) from count (now (memory .entry)) flags (now (memory .exit)) r ⌝ }
 {
     moves::move_bytes(memory, plan, from, count);
     flags

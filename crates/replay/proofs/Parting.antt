@@ -9,20 +9,20 @@ use borrow.Author.Tests.{ltb-true, ltb-false}
 use Rattle.runs.specs.declared.calls.Outcome.{Outcome}
 use Rattle.runs.specs.Answers.{paused}
 use Rattle.runs.specs.Steps.{State, at}
-use Rattle.runs.specs.Calls.{Call, leaves, afterwards, run}
+use Rattle.runs.specs.Calls.{Called, leaves, afterwards, run}
 use Rattle.runs.proofs.Ending.{ran, run-split}
 use Rattle.runs.proofs.Lending.{steps-most}
 use Rattle.runs.proofs.Theorems.{ended-stays}
-use Rattle.replay.specs.Parts.{goesOn, together}
+use Rattle.replay.specs.Parts.{callsOn, together}
 
 -- what calls of n steps in all came to took no more
 pub steps-of : (n : ℕ) (s : State) (b m : ℕ) (r : List ℕ) (o : Outcome) → leaves (at b m r) o ≡ run n s → o .steps ≤ n
 steps-of n s b m r o e =
-    let f : o .steps ≡ run n s .steps = ap (λ (c : Call). c .steps) e in
+    let f : o .steps ≡ run n s .steps = ap (λ (c : Called). c .steps) e in
     omega (arith, steps-most n s (run n s) (ran n s))
 
 -- where there is a call to make, steps are left
-pub goes : (o : Outcome) (left : ℕ) → goesOn o left ≡ true → 0 < left
+pub goes : (o : Outcome) (left : ℕ) → callsOn o left ≡ true → 0 < left
 goes o left = go (paused (o .answer))
   where
     go : (p : Bool) → (p && ltb 0 left) ≡ true → 0 < left
@@ -36,11 +36,11 @@ module _ (j : ℕ) (s : State) (b m : ℕ) (r : List ℕ) (o : Outcome) (e : lea
   further k n b' m' r' o' some all f = ap (afterwards (leaves (at b m r) o)) f ∙ sym (rw (sym e) at (run-split j k s some)) ∙ rw all
 
   -- where no call is to be made, what is left would change nothing
-  pub over : (left n : ℕ) → j + left ≡ n → goesOn o left ≡ false → leaves (at b m r) o ≡ run n s
+  pub over : (left n : ℕ) → j + left ≡ n → callsOn o left ≡ false → leaves (at b m r) o ≡ run n s
   over left n all = go (paused (o .answer)) refl
     where
       go : (p : Bool) → paused (o .answer) ≡ p → (p && ltb 0 left) ≡ false → leaves (at b m r) o ≡ run n s
       go true _ f =
           let z : n ≡ j = omega (arith, all, ltb-false 0 left f) in
           rw z e
-      go false p _ = e ∙ sym (ended-stays j left s (ap (λ (c : Call). paused (c .answer)) (sym e) ∙ p)) ∙ rw all
+      go false p _ = e ∙ sym (ended-stays j left s (ap (λ (c : Called). paused (c .answer)) (sym e) ∙ p)) ∙ rw all

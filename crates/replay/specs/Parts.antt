@@ -6,8 +6,8 @@ use Rattle.runs.specs.declared.calls.Outcome.{Outcome}
 use Rattle.runs.specs.Answers.{paused}
 
 -- 01, What a call says: 0 is said while steps are left to do; a call is made where some are.
-abbrev pub goesOn : Outcome → ℕ → Bool
-goesOn r left = paused (r .answer) && ltb 0 left
+abbrev pub callsOn : Outcome → ℕ → Bool
+callsOn r left = paused (r .answer) && ltb 0 left
 
 -- The answer and record of the last call, and the steps of all.
 abbrev pub together : Outcome → Outcome → Outcome

@@ -3,7 +3,7 @@ ghost use mathlib.Core.Path.{_≡_};
 ghost use Prim.Native.Nat.{_+_, _<_, _^_, min};
 ghost use Rattle.runs.specs.Steps.{lentAt};
 ghost use Rattle.runs.specs.Calls.{leaves, run};
-ghost use Rattle.replay.specs.Parts.{goesOn, together};
+ghost use Rattle.replay.specs.Parts.{callsOn, together};
 use runs::answers::is_paused;
 use runs::calls;
 use runs::calls::Outcome;
@@ -17,7 +17,7 @@ fn least(a: u32, b: u32) -> u32
 
 // Is there another call to make?
 fn goes_on(sum: Outcome, left: u32) -> bool
-    ensures { λ r. ⌜ r ≡ goesOn sum left ⌝ }
+    ensures { λ r. ⌜ r ≡ callsOn sum left ⌝ }
 {
     let answer = sum.answer;
     if is_paused(answer) {

@@ -17,7 +17,7 @@ use Rattle.runs.specs.declared.records.Record.{Record}
 use Rattle.runs.specs.declared.performs.Performed.{Performed}
 use Rattle.runs.specs.Records.{halfDone, half, between}
 use Rattle.runs.specs.Steps.{State, at, lentAt, Stepped, next, after, worksAt, burst, held, step, bind, strides}
-use Rattle.runs.specs.Inner.{Performs, Bursts}
+use Rattle.runs.specs.Private.Inner.{Performs, Bursts}
 use Rattle.runs.proofs.Choices.{and-true}
 
 -- a word of items that passes its checks where s stands

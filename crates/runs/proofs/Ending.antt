@@ -14,7 +14,7 @@ use Rattle.runs.specs.declared.answers.Said.the-variants.{Ends, Allows}
 use Rattle.runs.specs.Answers.{numberOf, saidOf, OfChecks}
 use Rattle.runs.specs.Records.{possible}
 use Rattle.runs.specs.Steps.{State, ended, next, verdictAt, step, strides}
-use Rattle.runs.specs.Calls.{Stopped, iterate, lengthsRight, Sound, Call, call, closed, afterwards, run}
+use Rattle.runs.specs.Calls.{Stopped, iterate, lengthsRight, Sound, Called, call, closed, afterwards, run}
 use Rattle.runs.proofs.Numbered.{said-number, allows-passes}
 use Rattle.runs.proofs.Soundness.{strides-sound, possible-marked}
 use Rattle.runs.proofs.Iterating.{iterate-strides, iterate-ended, Came, came}
@@ -22,7 +22,7 @@ use Rattle.runs.proofs.Bursting.{step-held}
 use Rattle.runs.proofs.Performing.{step-refused, step-begun}
 
 -- a call of budget n at s that left the call c
-pub data Ran (n : ℕ) (s : State) (c : Call) : Type 0 where
+pub data Ran (n : ℕ) (s : State) (c : Called) : Type 0 where
   lengths-wrong : lengthsRight (s .bytes) (length (s .registers)) ≡ false → c ≡ call s Lengths 0 → Ran n s c
   not-possible : lengthsRight (s .bytes) (length (s .registers)) ≡ true → possible (s .bytes) (s .registers) (s .rec) ≡ false → c ≡ call s Impossible 0 → Ran n s c
   all-used : (t : State) → Sound s → strides n s ≡ next t → c ≡ call t Paused n → Ran n s c
@@ -56,7 +56,7 @@ run-stopped n s i t a ok low e h =
     run-sound n s ok ∙ ap (closed n) (g ∙ iterate-ended (n - i) t a (omega arith) h) ∙ rw z
 
 -- each of the four ways says what the call left
-pub run-of : (n : ℕ) (s : State) (c : Call) → Ran n s c → run n s ≡ c
+pub run-of : (n : ℕ) (s : State) (c : Called) → Ran n s c → run n s ≡ c
 run-of n s c (lengths-wrong p e) = run-lengths n s p ∙ sym e
 run-of n s c (not-possible p q e) = run-impossible n s p q ∙ sym e
 run-of n s c (all-used t ok e is) = run-paused n s t ok e ∙ sym is
@@ -125,7 +125,7 @@ run-still k t a some ok h = run-stopped k t 0 t a ok some refl h
 pub run-split : (j k : ℕ) (s : State) → 0 < k → run (j + k) s ≡ afterwards (run j s) (run k (run j s .state))
 run-split j k s some = go (run j s) (ran j s)
   where
-    go : (c : Call) → Ran j s c → run (j + k) s ≡ afterwards c (run k (c .state))
+    go : (c : Called) → Ran j s c → run (j + k) s ≡ afterwards c (run k (c .state))
     go c (lengths-wrong p e) = rw e (run-lengths (j + k) s p ∙ rw (run-lengths k s p))
     go c (not-possible p q e) = rw e (run-impossible (j + k) s p q ∙ rw (run-impossible k s p q))
     go c (all-used t ok e is) =

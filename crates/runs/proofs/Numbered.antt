@@ -8,7 +8,7 @@ use native.Mathlib.Omega.{arith}
 use lib.Dec.{eqb, ltb}
 use borrow.Author.Tests.{eqb-true, ne-eqb, ltb-true}
 use Rattle.instructions.specs.Table.{lookUp}
-use Rattle.instructions.specs.Verdict.{Check, checks}
+use Rattle.instructions.specs.Verdict.{NumberedCheck, checks}
 use Rattle.instructions.proofs.TablePlaces.{past}
 use Rattle.instructions.proofs.Steps.{NumberIn, verdict-known}
 use Rattle.runs.specs.declared.answers.Answer.{Answer}
@@ -18,7 +18,7 @@ use Rattle.runs.specs.declared.answers.Said.the-variants.{Ends, Allows}
 use Rattle.runs.specs.Answers.{numberOf, refusals, saidOf, paused, OfChecks}
 use Rattle.runs.specs.Records.{halfDone}
 use Rattle.runs.specs.Steps.{State, Stepped, ended, next, wordAt, operandsAt, verdictAt, begun, answered, fresh, held, step}
-use Rattle.runs.specs.Inner.{Tells}
+use Rattle.runs.specs.Private.Inner.{Tells}
 use Rattle.runs.proofs.Choices.{cond-holds, and-true}
 use Rattle.runs.proofs.Variants.{all-pass, one-each}
 use Rattle.runs.proofs.answers.Answer.{enum}
@@ -90,7 +90,7 @@ abbrev ends : Said → Bool
 ends (Ends a) = true
 ends Allows = false
 
-abbrev allEnd : List Check → Bool
+abbrev allEnd : List NumberedCheck → Bool
 allEnd [] = true
 allEnd (k ∷ ks) = ends (saidOf (k .number)) && allEnd ks
 
@@ -98,7 +98,7 @@ checks-end : allEnd checks ≡ true
 unfolding saidOf
 checks-end = refl
 
-number-ends : (n : ℕ) (ks : List Check) → allEnd ks ≡ true → NumberIn n ks → ends (saidOf n) ≡ true
+number-ends : (n : ℕ) (ks : List NumberedCheck) → allEnd ks ≡ true → NumberIn n ks → ends (saidOf n) ≡ true
 number-ends n [] h i = absurd i
 number-ends n (k ∷ ks) h (inl e) = ap (λ (m : ℕ). ends (saidOf m)) e ∙ and-true (ends (saidOf (k .number))) _ h .0
 number-ends n (k ∷ ks) h (inr i) = number-ends n ks (and-true (ends (saidOf (k .number))) _ h .1) i

@@ -11,8 +11,8 @@ use Rattle.instructions.specs.declared.operands.Operands.{Operands}
 use Rattle.instructions.specs.Fetch.{lengthOf}
 use Rattle.instructions.specs.Operands.{gathered}
 use Rattle.instructions.specs.Verdict.{verdictOf}
-use Rattle.instructions.specs.Items.{Worked, worked}
-use Rattle.instructions.specs.Instruction.{byItems, oneStep, countOf, worksOf, done, actsOf}
+use Rattle.instructions.specs.Items.{MemoryAndFlags, worked}
+use Rattle.instructions.specs.Instruction.{byItems, oneStep, countOf, worksOf, leaving, actsOf}
 use Rattle.instructions.proofs.Steps.{verdict-there}
 use Rattle.runs.specs.declared.answers.Answer.{Answer}
 use Rattle.runs.specs.declared.answers.Answer.the-variants.{Impossible}
@@ -25,7 +25,7 @@ use Rattle.runs.specs.Answers.{saidOf}
 use Rattle.runs.specs.Records.{halfDone, between}
 use Rattle.runs.specs.Steps.{State, at, lentAt, ended, next, wordAt, operandsAt, verdictAt, itemsAt, after, burst, passed, finished, acted, begun, answered, fresh, held, step, strides}
 use Rattle.runs.specs.Calls.{lengthsRight}
-use Rattle.runs.specs.Inner.{Goes, Bursts, Performs, oneStepAt}
+use Rattle.runs.specs.Private.Inner.{Goes, Bursts, Performs, oneStepAt}
 use Rattle.runs.proofs.Numbered.{said-0, allows-passes}
 use Rattle.runs.proofs.Bursting.{holds-of, step-held, performs-burst}
 use Rattle.runs.proofs.Soundness.{lengths-of, small}
@@ -47,8 +47,8 @@ burst-of m c word o i most n k m' f d count some long w e =
     rw (← count, ← some)
     (record {
       as-long = long;
-      memory = ap (λ (x : Worked). x .memory) w;
-      did = rw (e, count, ← (ap (λ (x : Worked). x .flags) w));
+      memory = ap (λ (x : MemoryAndFlags). x .memory) w;
+      did = rw (e, count, ← (ap (λ (x : MemoryAndFlags). x .flags) w));
     })
 
 -- WHAT IS HALF DONE
@@ -178,7 +178,7 @@ performs-first m registers c word o v most f zero is some budget m' r b =
 
 pub performs-acted : (s : State) (word : ℕ) (o : Operands) (v most : ℕ) → Fetched s word o v → v ≡ 0 → byItems word ≡ false → 0 < most
     → (bytes m : ℕ) (r : List ℕ) (p f : ℕ) (c : Record) → bytes ≡ s .bytes
-    → done m r p f ≡ actsOf (s .rec .p) word o (s .bytes) (s .memory) (s .registers) (s .rec .flags) → c ≡ between p f
+    → leaving m r p f ≡ actsOf (s .rec .p) word o (s .bytes) (s .memory) (s .registers) (s .rec .flags) → c ≡ between p f
     → Performs s most (at bytes m r) (Did c 1)
 performs-acted s word o v most g zero other some bytes m r p f c long e is =
     performs-step s most (at bytes m r) c some

@@ -9,13 +9,12 @@ use lib.ListN.{replicate}
 use Rattle.fields.specs.Extents.{aligned, inside, shares, inPlace}
 use Rattle.instructions.specs.Table.{found, meaningOf}
 use Rattle.instructions.specs.Words.{notZero}
-use Rattle.instructions.specs.Operands.{named, gathered}
+use Rattle.instructions.specs.Operands.{supplied, gathered}
 use Rattle.instructions.specs.Layout.{sourceOf, shortOf, controlOf, vectorOf, ofKind, fieldsOf}
-use Rattle.instructions.specs.Fetch as F
-use Rattle.instructions.specs.Fetch.{longIn, there, fetchOf, unfetchedAt}
+use Rattle.instructions.specs.Fetch.{longIn, there, twoHalvesAt, fetchOf, unfetchedAt}
 use Rattle.instructions.specs.Verdict.{misaligned, outside, overlapping, verdictOf}
-use Rattle.instructions.specs.Items.{Worked, storedAt, madeAt, itemAt, flagsAt}
-use Rattle.instructions.specs.Plan.{shape, itemsOf}
+use Rattle.instructions.specs.Items.{MemoryAndFlags, storedAt, madeAt, itemAt, flagsAt}
+use Rattle.instructions.specs.Plan.{shapeOf, itemsOf}
 use Rattle.instructions.specs.Planned.{planIn}
 use Rattle.instructions.specs.Scalars.{scalarOf}
 use Rattle.instructions.specs.Instruction.{byItems, planOf, countOf, wholeOf, actsOf}
@@ -93,9 +92,9 @@ pub record Computed : Type 0 where
   pub exits : step exiting ≡ ended Exit
 
 pub computed : Computed
-unfolding lengthsRight possible placeRight flagsRight betweenTwo halfDone step fresh begun saidOf fetchOf F.wordAt longIn there unfetchedAt found
-    notZero named gathered verdictOf fieldsOf ofKind vectorOf sourceOf shortOf controlOf aligned inside shares inPlace misaligned outside overlapping
-    byItems planOf planIn meaningOf itemsOf shape wholeOf itemAt storedAt madeAt flagsAt actsOf scalarOf
+unfolding lengthsRight possible placeRight flagsRight betweenTwo halfDone step fresh begun saidOf fetchOf twoHalvesAt longIn there unfetchedAt found
+    notZero supplied gathered verdictOf fieldsOf ofKind vectorOf sourceOf shortOf controlOf aligned inside shares inPlace misaligned outside overlapping
+    byItems planOf planIn meaningOf itemsOf shapeOf wholeOf itemAt storedAt madeAt flagsAt actsOf scalarOf
 computed = record {
   adding-sound = record { lengths = refl; can = refl };
   added-sound = record { lengths = refl; can = refl };
@@ -103,7 +102,7 @@ computed = record {
   exiting-sound = record { lengths = refl; can = refl };
   adding-partial = record { unmarked = refl; passes = refl; of-items = refl; some = omega arith; short = omega arith };
   adding-cut = refl;
-  adding-differs = λ e. false≢true (sym (ap (λ (w : Worked). eqb (w .memory) (added .memory)) e));
+  adding-differs = λ e. false≢true (sym (ap (λ (w : MemoryAndFlags). eqb (w .memory) (added .memory)) e));
   added-short = omega arith;
   added-over = λ e. false≢true (sym (ap (λ (w : ℕ). eqb w (added .rec .word)) e));
   added-passes = refl;

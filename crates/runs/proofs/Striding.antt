@@ -11,14 +11,14 @@ use borrow.Author.Tests.{eqb-true}
 use Rattle.instructions.specs.declared.operands.Operands.{Operands}
 use Rattle.instructions.specs.Operands.{gathered}
 use Rattle.instructions.specs.Verdict.{verdictOf}
-use Rattle.instructions.specs.Instruction.{byItems, oneStep, done, actsOf}
+use Rattle.instructions.specs.Instruction.{byItems, oneStep, leaving, actsOf}
 use Rattle.runs.specs.declared.records.Record.{Record}
 use Rattle.runs.specs.declared.strides.Pace.{Pace}
 use Rattle.runs.specs.declared.performs.Performed.{Performed}
 use Rattle.runs.specs.declared.performs.Performed.the-variants.{Did}
 use Rattle.runs.specs.Records.{between}
 use Rattle.runs.specs.Steps.{State, Stepped, at, lentAt, ended, next, bind, wordAt, burst, begun, fresh, step, strides}
-use Rattle.runs.specs.Inner.{Starts, Performs, oneStepAt, Strode}
+use Rattle.runs.specs.Private.Inner.{Starts, Performs, oneStepAt, Strode}
 use Rattle.runs.proofs.Performing.{step-fresh, Fetched, performs-acted}
 
 -- ONE OF THEM
@@ -44,7 +44,7 @@ one-more k v w u e h = ap (λ (x : Stepped). bind x step) e ∙ h
 -- a turn of the loop
 pub stride-on : (v w : State) (all left word : ℕ) (o : Operands) (b : Bool) → left ≤ all → 0 < left → strides (all - left) v ≡ next w → w .rec .mark ≡ 0
     → word ≡ wordAt w → o ≡ gathered word (w .registers) → b ≡ oneStep (w .rec .p) word o (w .bytes) → b ≡ true
-    → (bytes m : ℕ) (r : List ℕ) (p f : ℕ) → bytes ≡ w .bytes → done m r p f ≡ actsOf (w .rec .p) word o (w .bytes) (w .memory) (w .registers) (w .rec .flags)
+    → (bytes m : ℕ) (r : List ℕ) (p f : ℕ) → bytes ≡ w .bytes → leaving m r p f ≡ actsOf (w .rec .p) word o (w .bytes) (w .memory) (w .registers) (w .rec .flags)
     → strides (all - (left - 1)) v ≡ next (at bytes m r (between p f))
 stride-on v w all left word o b few some e unmarked read named is h bytes m r p f long acts =
     let passes = one-step-passes (w .rec .p) word o (w .bytes) b is h in

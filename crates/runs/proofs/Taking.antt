@@ -17,8 +17,8 @@ use Rattle.runs.specs.declared.performs.Performed.the-variants.{Ended}
 use Rattle.runs.specs.Records.{betweenTwo, halfDone, possible}
 use Rattle.runs.specs.Steps.{lentAt}
 use Rattle.runs.specs.Calls.{lengthsRight, Sound}
-use Rattle.runs.specs.Controls.{control, seenAt, beginning}
-use Rattle.runs.specs.Inner.{Goes, Bursts, resume, Picked, holding, goesOn}
+use Rattle.runs.specs.Controls.{controlState, seenAt, beginning}
+use Rattle.runs.specs.Private.Inner.{Goes, Bursts, resume, Picked, holding, goesOn}
 use Rattle.runs.proofs.Soundness.{possible-marked}
 use Rattle.runs.proofs.Performing.{held-goes, performs-held}
 use Rattle.runs.proofs.Turning.{performs-within, advanced-counted, taken-begun}
@@ -29,31 +29,31 @@ unfolding possible goesOn betweenTwo halfDone holding
 goes-is bytes registers c o marked named = rw (marked, named)
 
 -- the answers 2 and 3, and none
-begins-2 : (bytes : ℕ) (registers : List ℕ) (c : Record) (budget : ℕ) → lengthsRight bytes (length registers) ≡ false → beginning bytes registers c budget ≡ control c budget Lengths
+begins-2 : (bytes : ℕ) (registers : List ℕ) (c : Record) (budget : ℕ) → lengthsRight bytes (length registers) ≡ false → beginning bytes registers c budget ≡ controlState c budget Lengths
 unfolding beginning
 begins-2 bytes registers c budget wrong = rw wrong
 
 begins-3 : (bytes : ℕ) (registers : List ℕ) (c : Record) (budget : ℕ) → lengthsRight bytes (length registers) ≡ true → possible bytes registers c ≡ false
-    → beginning bytes registers c budget ≡ control c budget Impossible
+    → beginning bytes registers c budget ≡ controlState c budget Impossible
 unfolding beginning
 begins-3 bytes registers c budget right not = rw (right, not)
 
 begins : (bytes : ℕ) (registers : List ℕ) (c : Record) (budget : ℕ) → lengthsRight bytes (length registers) ≡ true → possible bytes registers c ≡ true
-    → beginning bytes registers c budget ≡ control c budget Paused
+    → beginning bytes registers c budget ≡ controlState c budget Paused
 unfolding beginning
 begins bytes registers c budget right can = rw (right, can)
 
 pub picks-2 : (m registers : List ℕ) (c : Record) (budget : ℕ) → lengthsRight (length m) (length registers) ≡ false
     → Picked budget (lentAt m registers c) (seenAt m registers) (Ended Lengths)
 picks-2 m registers c budget wrong =
-    record { within = tt; taken = taken-begun budget (lentAt m registers c) (control c budget Lengths) (sym (begins-2 (length m) registers c budget wrong)) }
+    record { within = tt; taken = taken-begun budget (lentAt m registers c) (controlState c budget Lengths) (sym (begins-2 (length m) registers c budget wrong)) }
 
 module _ (m registers : List ℕ) (c : Record) (o : Operands) (budget : ℕ) (marked : c .mark ≡ 1) (right : lengthsRight (length m) (length registers) ≡ true)
     (named : o ≡ gathered (c .word) registers) where
   pub picks-3 : goesOn (length m) o c ≡ false → Picked budget (lentAt m registers c) (seenAt m registers) (Ended Impossible)
   picks-3 not =
       let e = begins-3 (length m) registers c budget right (goes-is (length m) registers c o marked named ∙ not) in
-      record { within = tt; taken = taken-begun budget (lentAt m registers c) (control c budget Impossible) (sym e) }
+      record { within = tt; taken = taken-begun budget (lentAt m registers c) (controlState c budget Impossible) (sym e) }
 
   module _ (goes : goesOn (length m) o c ≡ true) where
     can : possible (length m) registers c ≡ true
@@ -65,7 +65,7 @@ module _ (m registers : List ℕ) (c : Record) (o : Operands) (budget : ℕ) (ma
     pub picks-0 : Picked budget (lentAt m registers c) (seenAt m registers) (Ended Paused)
     picks-0 =
         let e = begins (length m) registers c budget right can in
-        record { within = tt; taken = taken-begun budget (lentAt m registers c) (control c budget Paused) (sym e) }
+        record { within = tt; taken = taken-begun budget (lentAt m registers c) (controlState c budget Paused) (sym e) }
 
     pub picks-goes : Goes (length m) c (c .word) o (c .items)
     picks-goes = held-goes (length m) registers c o right half named
@@ -75,7 +75,7 @@ module _ (m registers : List ℕ) (c : Record) (o : Operands) (budget : ℕ) (ma
     picks-up some m' x b =
         let p = performs-held m registers c o budget half named some m' x b in
         let ok : Sound (lentAt m registers c) = record { lengths = right; can = can } in
-        let a = advanced-counted (seenAt m registers (control c budget Paused)) (length m') (num m') registers x refl some ok p in
+        let a = advanced-counted (seenAt m registers (controlState c budget Paused)) (length m') (num m') registers x refl some ok p in
         record {
           within = performs-within _ budget _ budget x (omega arith) p;
           taken =

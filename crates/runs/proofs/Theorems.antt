@@ -15,7 +15,7 @@ use lib.ListN.{length, getD}
 use Rattle.fields.specs.Bytes.{Bytes}
 use Rattle.fields.proofs.Lists.{num-inj}
 use Rattle.instructions.specs.Fetch.{lengthOf}
-use Rattle.instructions.specs.Verdict.{case, checks}
+use Rattle.instructions.specs.Verdict.{caseOf, checks}
 use Rattle.instructions.specs.Items.{worked}
 use Rattle.instructions.specs.Instruction.{byItems, countOf}
 use Rattle.instructions.proofs.VerdictOrder.{Earliest, Passes, verdict-is, verdict-none}
@@ -27,10 +27,10 @@ use Rattle.runs.specs.declared.records.Record.{Record}
 use Rattle.runs.specs.Answers.{numberOf, paused, OfChecks}
 use Rattle.runs.specs.Records.{possible, half, between}
 use Rattle.runs.specs.Steps.{State, at, lentAt, ended, next, wordAt, operandsAt, verdictAt, itemsAt, acted, begun, heldOperands, heldAt, step, strides}
-use Rattle.runs.specs.Calls.{lengthsRight, Sound, Refused, Call, call, leaves, with00, afterwards, inParts, total, OneOrMore, run}
-use Rattle.runs.specs.Hosts.{Lent, lent, handed}
-use Rattle.runs.specs.Wholes.{firstItems, allItems, wholes, stepsOf, Partial, cutAt, Reached, whole, part}
-use Rattle.runs.specs.Controls.{Seen, seenAt, turns, beginAt, finishAt}
+use Rattle.runs.specs.Calls.{lengthsRight, Sound, Refused, Called, call, leaves, with00, afterwards, inParts, total, OneOrMore, run}
+use Rattle.runs.specs.Hosts.{LentCall, lent, handed}
+use Rattle.runs.specs.Wholes.{firstItems, allItems, wholes, stepsOf, Partial, cutAt, Reached, wholly, partly}
+use Rattle.runs.specs.Controls.{Sight, seenAt, stepControls, beginAt, finishAt}
 use Rattle.runs.proofs.Choices.{ne-pos}
 use Rattle.runs.proofs.Numbered.{step-answers, later}
 use Rattle.runs.proofs.Soundness.{strides-sound, possible-marked}
@@ -100,7 +100,7 @@ exactly-when n s = record {
       );
 }
   where
-    number : Call → ℕ
+    number : Called → ℕ
     number c = numberOf (c .answer)
 
 -- Every call says one of these numbers.
@@ -111,8 +111,8 @@ says-one n s = says-any n s (run n s) (ran n s)
 -- And this is the verdict exactly when the check of that number refuses the word at P and none before it does, in the order of `checks` (instructions,
 -- specs/Verdict), where each stands with 01's "When"; no check refuses it exactly when the verdict is 0.
 pub record First (t : State) : Type 0 where
-  pub refuses : (v : ℕ) → OfChecks v → (verdictAt t ≡ v) ↔ Earliest v (case (t .rec .p) (wordAt t) (operandsAt t) (t .bytes)) checks
-  pub none-refuses : (verdictAt t ≡ 0) ↔ Passes (case (t .rec .p) (wordAt t) (operandsAt t) (t .bytes)) checks
+  pub refuses : (v : ℕ) → OfChecks v → (verdictAt t ≡ v) ↔ Earliest v (caseOf (t .rec .p) (wordAt t) (operandsAt t) (t .bytes)) checks
+  pub none-refuses : (verdictAt t ≡ 0) ↔ Passes (caseOf (t .rec .p) (wordAt t) (operandsAt t) (t .bytes)) checks
 
 pub first-refuses : (t : State) → First t
 first-refuses t = record {
@@ -124,32 +124,32 @@ first-refuses t = record {
 
 -- What the contract of `run` says of the memory, registers and outcome that it leaves is met by one memory, one list of registers and one outcome. (`Bytes`:
 -- each byte is below 256, as in every slice of them.)
-pub one-outcome : (x : Call) (m m' r r' : List ℕ) (o o' : Outcome) → Bytes m → Bytes m' → leaves (lentAt m r) o ≡ x → leaves (lentAt m' r') o' ≡ x
+pub one-outcome : (x : Called) (m m' r r' : List ℕ) (o o' : Outcome) → Bytes m → Bytes m' → leaves (lentAt m r) o ≡ x → leaves (lentAt m' r') o' ≡ x
     → (m ≡ m') × ((r ≡ r') × (o ≡ o'))
 one-outcome x m m' r r' o o' b b' p q =
     let e : leaves (lentAt m r) o ≡ leaves (lentAt m' r') o' = p ∙ sym q in (
-      num-inj m m' b b' (ap (λ (c : Call). c .state .bytes) e) (ap (λ (c : Call). c .state .memory) e),
-      (ap (λ (c : Call). c .state .registers) e, ap (λ (c : Call). record { answer = c .answer; steps = c .steps; rec = c .state .rec }) e),
+      num-inj m m' b b' (ap (λ (c : Called). c .state .bytes) e) (ap (λ (c : Called). c .state .memory) e),
+      (ap (λ (c : Called). c .state .registers) e, ap (λ (c : Called). record { answer = c .answer; steps = c .steps; rec = c .state .rec }) e),
     )
 
 -- The same of `Control::step`.
-pub one-step : (x : Seen) (m m' r r' : List ℕ) (d d' : Control) → Bytes m → Bytes m' → seenAt m r d ≡ x → seenAt m' r' d' ≡ x
+pub one-step : (x : Sight) (m m' r r' : List ℕ) (d d' : Control) → Bytes m → Bytes m' → seenAt m r d ≡ x → seenAt m' r' d' ≡ x
     → (m ≡ m') × ((r ≡ r') × (d ≡ d'))
 one-step x m m' r r' d d' b b' p q =
     let e : seenAt m r d ≡ seenAt m' r' d' = p ∙ sym q in (
-      num-inj m m' b b' (ap (λ (v : Seen). v .bytes) e) (ap (λ (v : Seen). v .memory) e),
-      (ap (λ (v : Seen). v .registers) e, ap (λ (v : Seen). v .control) e),
+      num-inj m m' b b' (ap (λ (v : Sight). v .bytes) e) (ap (λ (v : Sight). v .memory) e),
+      (ap (λ (v : Sight). v .registers) e, ap (λ (v : Sight). v .control) e),
     )
 
 -- The same of the outer call, `rawgunshet_run`: one memory, one list of registers, one record and one result. Every other public function's contract is an
 -- equation with its result.
-pub one-lent : (x : Lent) (m m' r r' : List ℕ) (c c' : Record) (v v' : ℕ) → Bytes m → Bytes m'
+pub one-lent : (x : LentCall) (m m' r r' : List ℕ) (c c' : Record) (v v' : ℕ) → Bytes m → Bytes m'
     → lent (lentAt m r c) v ≡ x → lent (lentAt m' r' c') v' ≡ x
     → (m ≡ m') × ((r ≡ r') × ((c ≡ c') × (v ≡ v')))
 one-lent x m m' r r' c c' v v' b b' p q =
     let e : lent (lentAt m r c) v ≡ lent (lentAt m' r' c') v' = p ∙ sym q in (
-      num-inj m m' b b' (ap (λ (l : Lent). l .state .bytes) e) (ap (λ (l : Lent). l .state .memory) e),
-      (ap (λ (l : Lent). l .state .registers) e, (ap (λ (l : Lent). l .state .rec) e, ap (λ (l : Lent). l .result) e)),
+      num-inj m m' b b' (ap (λ (l : LentCall). l .state .bytes) e) (ap (λ (l : LentCall). l .state .memory) e),
+      (ap (λ (l : LentCall). l .state .registers) e, (ap (λ (l : LentCall). l .state .rec) e, ap (λ (l : LentCall). l .result) e)),
     )
 
 -- The outer call's result keeps both numbers: the answer's is in its left 32 bits, the steps are in its right 32, for every budget of 32 bits.
@@ -180,8 +180,8 @@ pub whole-instructions : (n : ℕ) (s : State) → Sound s → s .rec .mark ≡ 
 whole-instructions n s ok m h = go (run n s .state) (steps-reach (run n s .steps) s (run n s .state) ok m (steps-taken n s .finished)) h
   where
     go : (t : State) → Reached s (run n s .steps) t → t .rec .mark ≡ 0 → (i : ℕ) × (wholes i s ≡ next t)
-    go t (whole i e _ _) h = (i, e)
-    go t (part i k u e _ p is) h = absurd (omega (arith, rw is at h))
+    go t (wholly i e _ _) h = (i, e)
+    go t (partly i k u e _ p is) h = absurd (omega (arith, rw is at h))
 
 -- ---- 7. FLAGS AND REGISTER 00 (demand 2)
 
@@ -260,40 +260,40 @@ possible-again n s ok = strides-sound (run n s .steps) s (run n s .state) ok (st
 -- ---- 12. STEP BY STEP (demand 3)
 
 -- Begin, step as often as the budget says, and finish: the same as the one call.
-pub step-by-step : (n : ℕ) (s : State) → finishAt n (turns n (beginAt n s)) ≡ run n s
+pub step-by-step : (n : ℕ) (s : State) → finishAt n (stepControls n (beginAt n s)) ≡ run n s
 step-by-step = stepping
 
 -- ---- 13. NOT THESE
 
 -- A run that refuses everything, but where the budget is 0, differs wherever a budget is used up in steps. At a transmit with budget 1 it differs.
-pub not-refusing : (wrong : ℕ → State → Call) → ((n : ℕ) (s : State) → 0 < n → paused (wrong n s .answer) ≡ false)
+pub not-refusing : (wrong : ℕ → State → Called) → ((n : ℕ) (s : State) → 0 < n → paused (wrong n s .answer) ≡ false)
     → (n : ℕ) (s t : State) → 0 < n → Sound s → strides n s ≡ next t → wrong n s ≡ run n s → ⊥
 not-refusing wrong refuses n s t some ok e same =
-    false≢true (sym (refuses n s some) ∙ ap (λ (c : Call). paused (c .answer)) (same ∙ run-of n s _ (all-used t ok e refl)))
+    false≢true (sym (refuses n s some) ∙ ap (λ (c : Called). paused (c .answer)) (same ∙ run-of n s _ (all-used t ok e refl)))
 
-pub not-refusing-here : (wrong : ℕ → State → Call) → ((n : ℕ) (s : State) → 0 < n → paused (wrong n s .answer) ≡ false)
+pub not-refusing-here : (wrong : ℕ → State → Called) → ((n : ℕ) (s : State) → 0 < n → paused (wrong n s .answer) ≡ false)
     → wrong 1 transmitting ≡ run 1 transmitting → ⊥
 not-refusing-here wrong refuses =
     not-refusing wrong refuses 1 transmitting (begun transmitting) (omega arith) (computed .transmitting-sound)
     (one-stride transmitting (begun transmitting) (computed .transmits))
 
 -- A run that gives the same answer every time differs at one of two starts.
-pub not-one-answer : (wrong : ℕ → State → Call) (a : Answer) → ((n : ℕ) (s : State) → wrong n s .answer ≡ a)
+pub not-one-answer : (wrong : ℕ → State → Called) (a : Answer) → ((n : ℕ) (s : State) → wrong n s .answer ≡ a)
     → wrong 0 blank ≡ run 0 blank → wrong 0 nothing-lent ≡ run 0 nothing-lent → ⊥
 not-one-answer wrong a same p q =
-    let e : a ≡ Paused = sym (same 0 blank) ∙ ap (λ (c : Call). c .answer) (p ∙ blank-pauses) in
-    let f : a ≡ Lengths = sym (same 0 nothing-lent) ∙ ap (λ (c : Call). c .answer) (q ∙ nothing-refused 0) in
+    let e : a ≡ Paused = sym (same 0 blank) ∙ ap (λ (c : Called). c .answer) (p ∙ blank-pauses) in
+    let f : a ≡ Lengths = sym (same 0 nothing-lent) ∙ ap (λ (c : Called). c .answer) (q ∙ nothing-refused 0) in
     let z : _≡_ {A = ℕ} 0 1 = cc in
     omega arith
 
 -- A run that touches nothing and says paused differs wherever a step changes the state, and wherever the word at P ends the run.
 pub not-idle : (s t : State) → Sound s → step s ≡ next t → (s ≡ t → ⊥) → call s Paused 1 ≡ run 1 s → ⊥
-not-idle s t ok e differs same = differs (ap (λ (c : Call). c .state) (same ∙ run-of 1 s _ (all-used t ok (one-stride s t e) refl)))
+not-idle s t ok e differs same = differs (ap (λ (c : Called). c .state) (same ∙ run-of 1 s _ (all-used t ok (one-stride s t e) refl)))
 
 pub not-idle-ended : (n : ℕ) (s : State) (a : Answer) → Sound s → step s ≡ ended a → call s Paused (suc n) ≡ run (suc n) s → ⊥
 not-idle-ended n s a ok e same =
     let f : run (suc n) s ≡ call s a 0 = run-of (suc n) s _ (stopped 0 s a ok (omega arith) (no-stride s) e refl) in
-    false≢true (sym (step-answers s a e) ∙ sym (ap (λ (c : Call). paused (c .answer)) (same ∙ f)))
+    false≢true (sym (step-answers s a e) ∙ sym (ap (λ (c : Called). paused (c .answer)) (same ∙ f)))
 
 -- At a transmit with budget 1 it differs, and at an exit with any budget but 0.
 pub not-idle-here : call transmitting Paused 1 ≡ run 1 transmitting → ⊥
@@ -305,38 +305,38 @@ pub not-idle-exit : (n : ℕ) → call exiting Paused (suc n) ≡ run (suc n) ex
 not-idle-exit n = not-idle-ended n exiting Exit (computed .exiting-sound) (computed .exits)
 
 -- A run that does a whole vector in its first step, and only counts afterwards, differs wherever one item is not all of them.
-pub not-whole-first : (wrong : ℕ → State → Call) (s : State) → Sound s → Partial s 1
+pub not-whole-first : (wrong : ℕ → State → Called) (s : State) → Sound s → Partial s 1
     → worked (wrong 1 s .state .memory) (wrong 1 s .state .rec .flags) ≡ firstItems (itemsAt s) s → (firstItems 1 s ≡ firstItems (itemsAt s) s → ⊥)
     → wrong 1 s ≡ run 1 s → ⊥
 not-whole-first wrong s ok h all differs same =
-    differs (sym (ap (λ (c : Call). worked (c .state .memory) (c .state .rec .flags)) (same ∙ half-done s 1 ok h)) ∙ all)
+    differs (sym (ap (λ (c : Called). worked (c .state .memory) (c .state .rec .flags)) (same ∙ half-done s 1 ok h)) ∙ all)
 
 -- At a vector add of three words with budget 1 it differs.
-pub not-whole-first-here : (wrong : ℕ → State → Call)
+pub not-whole-first-here : (wrong : ℕ → State → Called)
     → worked (wrong 1 adding .state .memory) (wrong 1 adding .state .rec .flags) ≡ firstItems (itemsAt adding) adding → wrong 1 adding ≡ run 1 adding → ⊥
 not-whole-first-here wrong all = not-whole-first wrong adding (computed .adding-sound) (computed .adding-partial) all (computed .adding-differs)
 
 -- A run that says that the whole budget was used differs where nothing is lent, and wherever the word at P ends the run.
-pub not-inventing : (wrong : ℕ → State → Call) → ((n : ℕ) (s : State) → wrong n s .steps ≡ n) → wrong 1 nothing-lent ≡ run 1 nothing-lent → ⊥
+pub not-inventing : (wrong : ℕ → State → Called) → ((n : ℕ) (s : State) → wrong n s .steps ≡ n) → wrong 1 nothing-lent ≡ run 1 nothing-lent → ⊥
 not-inventing wrong says same =
-    let e : _≡_ {A = ℕ} 1 0 = sym (says 1 nothing-lent) ∙ ap (λ (c : Call). c .steps) (same ∙ nothing-refused 1) in
+    let e : _≡_ {A = ℕ} 1 0 = sym (says 1 nothing-lent) ∙ ap (λ (c : Called). c .steps) (same ∙ nothing-refused 1) in
     omega arith
 
-pub not-inventing-ended : (wrong : ℕ → State → Call) → ((n : ℕ) (s : State) → wrong n s .steps ≡ n)
+pub not-inventing-ended : (wrong : ℕ → State → Called) → ((n : ℕ) (s : State) → wrong n s .steps ≡ n)
     → (n : ℕ) (s : State) (a : Answer) → Sound s → step s ≡ ended a → wrong (suc n) s ≡ run (suc n) s → ⊥
 not-inventing-ended wrong says n s a ok e same =
-    let f : suc n ≡ 0 = sym (says (suc n) s) ∙ ap (λ (c : Call). c .steps) (same ∙ run-of (suc n) s _ (stopped 0 s a ok (omega arith) (no-stride s) e refl)) in
+    let f : suc n ≡ 0 = sym (says (suc n) s) ∙ ap (λ (c : Called). c .steps) (same ∙ run-of (suc n) s _ (stopped 0 s a ok (omega arith) (no-stride s) e refl)) in
     omega arith
 
 -- At an exit with any budget but 0 it differs.
-pub not-inventing-exit : (wrong : ℕ → State → Call) → ((n : ℕ) (s : State) → wrong n s .steps ≡ n) → (n : ℕ) → wrong (suc n) exiting ≡ run (suc n) exiting → ⊥
+pub not-inventing-exit : (wrong : ℕ → State → Called) → ((n : ℕ) (s : State) → wrong n s .steps ≡ n) → (n : ℕ) → wrong (suc n) exiting ≡ run (suc n) exiting → ⊥
 not-inventing-exit wrong says n = not-inventing-ended wrong says n exiting Exit (computed .exiting-sound) (computed .exits)
 
 -- An outer call that does not store the next record differs wherever a step changes the record. At a transmit with budget 1 it differs.
 pub not-forgetting : (s t : State) (m : ℕ) (r : List ℕ) (v : ℕ) → Sound s → step s ≡ next t → (s .rec ≡ t .rec → ⊥)
     → lent (at (s .bytes) m r (s .rec)) v ≡ handed (run 1 s) → ⊥
 not-forgetting s t m r v ok e differs same =
-    differs (ap (λ (l : Lent). l .state .rec) (same ∙ ap handed (run-of 1 s _ (all-used t ok (one-stride s t e) refl))))
+    differs (ap (λ (l : LentCall). l .state .rec) (same ∙ ap handed (run-of 1 s _ (all-used t ok (one-stride s t e) refl))))
 
 pub not-forgetting-here : (m : ℕ) (r : List ℕ) (v : ℕ) → lent (at (transmitting .bytes) m r (transmitting .rec)) v ≡ handed (run 1 transmitting) → ⊥
 not-forgetting-here m r v =
@@ -347,37 +347,37 @@ pub not-number-alone : (s t u : State) → Sound s → step s ≡ next t → len
 not-number-alone s t u ok e same =
     let f : run 1 s ≡ call t Paused 1 = run-of 1 s _ (all-used t ok (one-stride s t e) refl) in
     let g : numberOf (run 1 s .answer) * 2 ^ 32 % 2 ^ 32 ≡ 1 =
-    ap (λ (l : Lent). l .result % 2 ^ 32) same ∙ lent-says 1 s (omega arith) .1 ∙ ap (λ (c : Call). c .steps) f in
-    let h : _≡_ {A = ℕ} 0 1 = sym (ap (λ (c : Call). numberOf (c .answer) * 2 ^ 32 % 2 ^ 32) f) ∙ g in
+    ap (λ (l : LentCall). l .result % 2 ^ 32) same ∙ lent-says 1 s (omega arith) .1 ∙ ap (λ (c : Called). c .steps) f in
+    let h : _≡_ {A = ℕ} 0 1 = sym (ap (λ (c : Called). numberOf (c .answer) * 2 ^ 32 % 2 ^ 32) f) ∙ g in
     omega arith
 
 pub not-number-alone-here : (u : State) → lent u (numberOf (run 1 transmitting .answer) * 2 ^ 32) ≡ handed (run 1 transmitting) → ⊥
 not-number-alone-here u = not-number-alone transmitting (begun transmitting) u (computed .transmitting-sound) (computed .transmits)
 
 -- A run that fetches again after a pause differs wherever memory at P no longer holds the word.
-pub not-fetching-again : (wrong : ℕ → State → Call) (s : State) → Sound s → (s .rec .mark ≡ 0 → ⊥) → s .rec .items + 1 < countOf (s .rec .word) (heldOperands s)
+pub not-fetching-again : (wrong : ℕ → State → Called) (s : State) → Sound s → (s .rec .mark ≡ 0 → ⊥) → s .rec .items + 1 < countOf (s .rec .word) (heldOperands s)
     → wrong 1 s .state .rec .word ≡ wordAt s → (s .rec .word ≡ wordAt s → ⊥) → wrong 1 s ≡ run 1 s → ⊥
 not-fetching-again wrong s ok marked short fetches differs same =
     let g = goes-on s 1 ok marked (omega arith) (omega arith) in
-    differs (sym (ap (λ (c : Call). c .state .rec .word) (same ∙ g .works) ∙ ap (λ (c : Record). c .word) (g .short short)) ∙ fetches)
+    differs (sym (ap (λ (c : Called). c .state .rec .word) (same ∙ g .works) ∙ ap (λ (c : Record). c .word) (g .short short)) ∙ fetches)
 
 -- One step of the add leads to a state where memory at P no longer holds the word, and where a run that fetches again differs.
 pub paused-over : run 1 adding ≡ call added Paused 1
 paused-over = half-done adding 1 (computed .adding-sound) (computed .adding-partial) ∙ ap (λ (s : State). call s Paused 1) (computed .adding-cut)
 
-pub not-fetching-again-here : (wrong : ℕ → State → Call) → wrong 1 added .state .rec .word ≡ wordAt added → wrong 1 added ≡ run 1 added → ⊥
+pub not-fetching-again-here : (wrong : ℕ → State → Called) → wrong 1 added .state .rec .word ≡ wordAt added → wrong 1 added ≡ run 1 added → ⊥
 not-fetching-again-here wrong fetches =
     not-fetching-again wrong added (computed .added-sound) (λ m. omega arith) (computed .added-short) fetches (computed .added-over)
 
 -- A run that starts a half-done vector afresh differs wherever it is not done with the next item: its record would hold one item done, and not two or more.
-pub not-afresh : (wrong : ℕ → State → Call) (s : State) → Sound s → (s .rec .mark ≡ 0 → ⊥) → s .rec .items + 1 < countOf (s .rec .word) (heldOperands s)
+pub not-afresh : (wrong : ℕ → State → Called) (s : State) → Sound s → (s .rec .mark ≡ 0 → ⊥) → s .rec .items + 1 < countOf (s .rec .word) (heldOperands s)
     → wrong 1 s .state .rec .items ≡ 1 → wrong 1 s ≡ run 1 s → ⊥
 not-afresh wrong s ok marked short one same =
     let g = goes-on s 1 ok marked (omega arith) (omega arith) in
-    let e : s .rec .items + 1 ≡ 1 = sym (ap (λ (c : Call). c .state .rec .items) (same ∙ g .works) ∙ ap (λ (c : Record). c .items) (g .short short)) ∙ one in
+    let e : s .rec .items + 1 ≡ 1 = sym (ap (λ (c : Called). c .state .rec .items) (same ∙ g .works) ∙ ap (λ (c : Record). c .items) (g .short short)) ∙ one in
     let some = holds-of _ _ _ (possible-marked (s .bytes) (s .registers) (s .rec) (ok .can) marked) .some in
     omega arith
 
 -- At the same state it differs.
-pub not-afresh-here : (wrong : ℕ → State → Call) → wrong 1 added .state .rec .items ≡ 1 → wrong 1 added ≡ run 1 added → ⊥
+pub not-afresh-here : (wrong : ℕ → State → Called) → wrong 1 added .state .rec .items ≡ 1 → wrong 1 added ≡ run 1 added → ⊥
 not-afresh-here wrong one = not-afresh wrong added (computed .added-sound) (λ m. omega arith) (computed .added-short) one

@@ -17,8 +17,8 @@ use Rattle.runs.specs.Answers.{paused}
 use Rattle.runs.specs.Records.{possible}
 use Rattle.runs.specs.Steps.{State, at, next, step, strides}
 use Rattle.runs.specs.Calls.{Stopped, iterate, lengthsRight, Sound, call, closed, run}
-use Rattle.runs.specs.Controls.{control, Seen, seen, stateIn, beginning, turned, turnedAt, turn, finishing, beginAt, finishAt}
-use Rattle.runs.specs.Inner.{Performs, Within, counted, mayGo, resume, Advanced, Gone, Taken}
+use Rattle.runs.specs.Controls.{controlState, Sight, seen, stateIn, beginning, controlAfter, controlWithin, stepControl, finishing, beginAt, finishAt}
+use Rattle.runs.specs.Private.Inner.{Performs, AtMost, counted, mayGo, resume, Advanced, Gone, TakenUp}
 use Rattle.runs.proofs.Choices.{cond-holds}
 use Rattle.runs.proofs.Numbered.{paused-only, step-answers}
 use Rattle.runs.proofs.Soundness.{strides-sound}
@@ -32,50 +32,50 @@ one-stride s t j some few e =
     let f : j ≡ 1 = omega arith in
     rw f at e
 
-turned-none : (n : ℕ) (v : Seen) → n ≡ 0 → turnedAt n v ≡ v
+turned-none : (n : ℕ) (v : Sight) → n ≡ 0 → controlWithin n v ≡ v
 turned-none n v e = rw e
 
-pub turn-none : (v : Seen) → v .control .left ≡ 0 → v ≡ turn v
-unfolding turn
+pub turn-none : (v : Sight) → v .control .left ≡ 0 → v ≡ stepControl v
+unfolding stepControl
 turn-none v e =
-    cond-holds (λ (x : Seen). v ≡ x) (paused (v .control .answer)) _ v
-    (cond-holds (λ (x : Seen). v ≡ x) (lengthsRight (v .bytes) (length (v .registers))) _ v (sym (turned-none (v .control .left) v e)) refl)
+    cond-holds (λ (x : Sight). v ≡ x) (paused (v .control .answer)) _ v
+    (cond-holds (λ (x : Sight). v ≡ x) (lengthsRight (v .bytes) (length (v .registers))) _ v (sym (turned-none (v .control .left) v e)) refl)
     refl
 
-pub turn-over : (v : Seen) → paused (v .control .answer) ≡ false → v ≡ turn v
-unfolding turn
+pub turn-over : (v : Sight) → paused (v .control .answer) ≡ false → v ≡ stepControl v
+unfolding stepControl
 turn-over v e = rw e
 
-pub turn-wrong : (v : Seen) → lengthsRight (v .bytes) (length (v .registers)) ≡ false → v ≡ turn v
-unfolding turn
-turn-wrong v e = cond-holds (λ (x : Seen). v ≡ x) (paused (v .control .answer)) _ v (rw e) refl
+pub turn-wrong : (v : Sight) → lengthsRight (v .bytes) (length (v .registers)) ≡ false → v ≡ stepControl v
+unfolding stepControl
+turn-wrong v e = cond-holds (λ (x : Sight). v ≡ x) (paused (v .control .answer)) _ v (rw e) refl
 
-turned-pos : (n : ℕ) (v : Seen) → 0 < n → turnedAt n v ≡ turned (step (stateIn v)) v (n - 1)
+turned-pos : (n : ℕ) (v : Sight) → 0 < n → controlWithin n v ≡ controlAfter (step (stateIn v)) v (n - 1)
 turned-pos zero v some = absurd (omega arith)
 turned-pos (suc k) v some =
     let e : suc k - 1 ≡ k = omega arith in
     rw e
 
 -- one step, done or refused, as the code counts it
-pub turn-counted : (v : Seen) (bytes m : ℕ) (r : List ℕ) (x : Performed) → paused (v .control .answer) ≡ true → 0 < v .control .left
+pub turn-counted : (v : Sight) (bytes m : ℕ) (r : List ℕ) (x : Performed) → paused (v .control .answer) ≡ true → 0 < v .control .left
     → lengthsRight (v .bytes) (length (v .registers)) ≡ true → Performs (stateIn v) 1 (at bytes m r) x
-    → seen bytes m r (counted (v .control .rec) (v .control .left) x) ≡ turn v
-unfolding turn
+    → seen bytes m r (counted (v .control .rec) (v .control .left) x) ≡ stepControl v
+unfolding stepControl
 turn-counted v bytes m r (Did c j) goes some right p =
     let few = p .1 .0 in
     let e : j ≡ 1 = omega (arith, p .0) in
     rw (goes, right, turned-pos (v .control .left) v some, one-stride _ _ j (p .0) (p .1 .0) (p .1 .1), e)
 turn-counted v bytes m r (Ended a) goes some right p =
     let f : suc (v .control .left - 1) ≡ v .control .left = omega arith in
-    ap (λ (t : State). seen (t .bytes) (t .memory) (t .registers) (control (v .control .rec) (v .control .left) a)) (p .1)
+    ap (λ (t : State). seen (t .bytes) (t .memory) (t .registers) (controlState (v .control .rec) (v .control .left) a)) (p .1)
     ∙ rw (goes, right, turned-pos (v .control .left) v some, p .0, f)
 
 -- no more steps are done than are left
-pub performs-within : (s : State) (most : ℕ) (there : Record → State) (left : ℕ) (x : Performed) → most ≤ left → Performs s most there x → Within left x
+pub performs-within : (s : State) (most : ℕ) (there : Record → State) (left : ℕ) (x : Performed) → most ≤ left → Performs s most there x → AtMost left x
 performs-within s most there left (Did c j) few p = omega (arith, p .1 .0)
 performs-within s most there left (Ended a) few p = tt
 
-pub within-of : (left : ℕ) (x : Performed) (c : Record) (j : ℕ) → Within left x → x ≡ Did c j → j ≤ left
+pub within-of : (left : ℕ) (x : Performed) (c : Record) (j : ℕ) → AtMost left x → x ≡ Did c j → j ≤ left
 within-of left x c j w e = rw e at w
 
 -- SOME STEPS
@@ -83,7 +83,7 @@ within-of left x c j w e = rw e at w
 abbrev halted : State → Answer → ℕ → Stopped
 halted s a left = record { state = s; answer = a; left = left }
 
-pub advanced-counted : (v : Seen) (bytes m : ℕ) (r : List ℕ) (x : Performed) → paused (v .control .answer) ≡ true → 0 < v .control .left
+pub advanced-counted : (v : Sight) (bytes m : ℕ) (r : List ℕ) (x : Performed) → paused (v .control .answer) ≡ true → 0 < v .control .left
     → Sound (stateIn v) → Performs (stateIn v) (v .control .left) (at bytes m r) x
     → Advanced v (seen bytes m r (counted (v .control .rec) (v .control .left) x))
 unfolding resume
@@ -111,7 +111,7 @@ advanced-counted v bytes m r (Ended a) goes some ok p =
 abbrev pub toGo : Control → ℕ
 toGo c = c .left + cond (paused (c .answer)) 1 0
 
-pub toGo-less : (v w : Seen) → paused (v .control .answer) ≡ true → Advanced v w → toGo (w .control) < toGo (v .control)
+pub toGo-less : (v w : Sight) → paused (v .control .answer) ≡ true → Advanced v w → toGo (w .control) < toGo (v .control)
 toGo-less v w goes a = rw goes (go (paused (w .control .answer)) refl)
   where
     go : (b : Bool) → paused (w .control .answer) ≡ b → w .control .left + cond b 1 0 < v .control .left + 1
@@ -133,7 +133,7 @@ iterate-none zero s a none goes = rw (paused-only a goes)
 iterate-none (suc n) s a none goes = absurd (omega arith)
 
 -- a control state with nothing to do leads to itself
-resume-over : (v : Seen) → mayGo (v .control) ≡ false → resume v ≡ record { state = stateIn v; answer = v .control .answer; left = v .control .left }
+resume-over : (v : Sight) → mayGo (v .control) ≡ false → resume v ≡ record { state = stateIn v; answer = v .control .answer; left = v .control .left }
 unfolding resume
 resume-over v h = go (paused (v .control .answer)) refl h
   where
@@ -153,7 +153,7 @@ run-begins budget s = go (lengthsRight (s .bytes) (length (s .registers))) (poss
 
     go : (a b : Bool)
         → cond a (cond b (closed budget (iterate budget s)) (call s Impossible 0)) (call s Lengths 0)
-        ≡ closed budget (resume (seen (s .bytes) (s .memory) (s .registers) (cond a (cond b (control (s .rec) budget Paused) (control (s .rec) budget Impossible)) (control (s .rec) budget Lengths))))
+        ≡ closed budget (resume (seen (s .bytes) (s .memory) (s .registers) (cond a (cond b (controlState (s .rec) budget Paused) (controlState (s .rec) budget Impossible)) (controlState (s .rec) budget Lengths))))
     go true true = refl
     go true false = rw nothing
     go false b = rw nothing
@@ -165,7 +165,7 @@ unfolding beginning
 begins-sound budget s d e h = go (lengthsRight (s .bytes) (length (s .registers))) refl (possible (s .bytes) (s .registers) (s .rec)) refl e
   where
     go : (a : Bool) → lengthsRight (s .bytes) (length (s .registers)) ≡ a → (b : Bool) → possible (s .bytes) (s .registers) (s .rec) ≡ b
-        → d ≡ cond a (cond b (control (s .rec) budget Paused) (control (s .rec) budget Impossible)) (control (s .rec) budget Lengths)
+        → d ≡ cond a (cond b (controlState (s .rec) budget Paused) (controlState (s .rec) budget Impossible)) (controlState (s .rec) budget Lengths)
         → Sound (at (s .bytes) (s .memory) (s .registers) (d .rec))
     go true p true q k = rw k (record { lengths = p; can = q })
     go true p false q k = absurd (false≢true (rw k at h))
@@ -173,14 +173,14 @@ begins-sound budget s d e h = go (lengthsRight (s .bytes) (length (s .registers)
 
 -- a call that only begins
 pub taken-begun : (budget : ℕ) (s : State) (b : Control) → b ≡ beginning (s .bytes) (s .registers) (s .rec) budget
-    → Taken budget s (seen (s .bytes) (s .memory) (s .registers) b)
+    → TakenUp budget s (seen (s .bytes) (s .memory) (s .registers) b)
 taken-begun budget s b e =
     record { same = ap (λ (x : Control). resume (seen (s .bytes) (s .memory) (s .registers) x)) e; sound = begins-sound budget s b e }
 
 -- a call that goes on until nothing is left to do
-pub taken-ends : (budget : ℕ) (s : State) (v w : Seen) → Taken budget s v → Gone v w → finishAt budget w ≡ run budget s
+pub taken-ends : (budget : ℕ) (s : State) (v w : Sight) → TakenUp budget s v → Gone v w → finishAt budget w ≡ run budget s
 unfolding finishing
 taken-ends budget s v w began g = ap (closed budget) (sym (resume-over w (g .over)) ∙ g .same ∙ began .same) ∙ sym (run-begins budget s)
 
-pub run-ends : (budget : ℕ) (s : State) (w : Seen) → Gone (beginAt budget s) w → finishAt budget w ≡ run budget s
+pub run-ends : (budget : ℕ) (s : State) (w : Sight) → Gone (beginAt budget s) w → finishAt budget w ≡ run budget s
 run-ends budget s w g = taken-ends budget s (beginAt budget s) w (taken-begun budget s _ refl) g

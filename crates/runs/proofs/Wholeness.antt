@@ -7,7 +7,7 @@ use lib.Dec.{eqb, ltb}
 use borrow.Author.Tests.{eqb-true, eqb-false, ltb-true, ltb-false}
 use Rattle.fields.specs.Memory.{rightLength}
 use Rattle.instructions.specs.Fetch.{lengthOf}
-use Rattle.instructions.specs.Items.{Worked, worked}
+use Rattle.instructions.specs.Items.{MemoryAndFlags, worked}
 use Rattle.instructions.specs.Instruction.{byItems, countOf, worksOf}
 use Rattle.instructions.proofs.Steps.{works-none, works-whole}
 use Rattle.runs.specs.declared.answers.Answer.{Answer}
@@ -17,7 +17,7 @@ use Rattle.runs.specs.Answers.{saidOf}
 use Rattle.runs.specs.Records.{between}
 use Rattle.runs.specs.Steps.{State, at, Stepped, ended, next, burst, heldAt, passed, acted, wordAt, operandsAt, verdictAt, itemsAt, answered, heldOperands, step, bind, strides}
 use Rattle.runs.specs.Calls.{Sound}
-use Rattle.runs.specs.Wholes.{firstItems, allItems, wholeStep, wholes, stepsOf, wholeSteps, Partial, cutAt, Reached, whole, part}
+use Rattle.runs.specs.Wholes.{firstItems, allItems, wholeStep, wholes, stepsOf, wholeSteps, Partial, cutAt, Reached, wholly, partly}
 use Rattle.runs.proofs.Choices.{ne-pos}
 use Rattle.runs.proofs.Numbered.{said-0, allows-passes}
 use Rattle.runs.proofs.Soundness.{lengths-of, strides-sound, possible-marked}
@@ -72,7 +72,7 @@ steps-other s other = rw other
 -- no items: only P moves
 passed-all : (s : State) → rightLength (s .bytes) ≡ true → verdictAt s ≡ 0 → byItems (wordAt s) ≡ true → itemsAt s ≡ 0 → passed s ≡ allItems s
 passed-all s lent passes is none =
-    ap (λ (w : Worked). at (s .bytes) (w .memory) (s .registers) (between (s .rec .p + lengthOf (wordAt s)) (w .flags))) nothing
+    ap (λ (w : MemoryAndFlags). at (s .bytes) (w .memory) (s .registers) (between (s .rec .p + lengthOf (wordAt s)) (w .flags))) nothing
   where
     nothing : worked (s .memory) (s .rec .flags) ≡ firstItems (itemsAt s) s
     nothing =
@@ -83,7 +83,7 @@ passed-all s lent passes is none =
 -- one more instruction is whole
 end-whole : (s u : State) (i k j : ℕ) → wholes i s ≡ next u → stepsOf u ≡ k → j ≡ wholeSteps i s + k → (t v : State) → t ≡ v → wholeStep u ≡ next v → v .rec .mark ≡ 0 → Reached s j t
 end-whole s u i k j e steps is t v a h m =
-    whole (suc i) (one-more s u i t e (h ∙ ap next (sym a))) (more-steps s u i k j e steps is) (ap (λ (x : State). x .rec .mark) a ∙ m)
+    wholly (suc i) (one-more s u i t e (h ∙ ap next (sym a))) (more-steps s u i k j e steps is) (ap (λ (x : State). x .rec .mark) a ∙ m)
 
 -- after k items, k one or more
 after-items : (s u : State) (i k j : ℕ) → wholes i s ≡ next u → j ≡ wholeSteps i s + k → rightLength (u .bytes) ≡ true → u .rec .mark ≡ 0 → verdictAt u ≡ 0 → byItems (wordAt u) ≡ true
@@ -93,7 +93,7 @@ after-items s u i k j e steps lent m passes is some few t b = go (ltb k (itemsAt
     go : (x : Bool) → ltb k (itemsAt u) ≡ x → Reached s j t
     go true q =
         let h : Partial u k = record { unmarked = m; passes = passes; of-items = is; some = some; short = ltb-true _ _ q } in
-        part i k u e steps h (b ∙ burst-cut u k lent h)
+        partly i k u e steps h (b ∙ burst-cut u k lent h)
     go false q =
         let l : itemsAt u ≤ k = ltb-false _ _ q in
         let all : k ≡ itemsAt u = omega arith in
@@ -141,8 +141,8 @@ after-part s u i k j e steps lent h t q =
     after-items s u i (suc k) j e steps lent (h .unmarked) (h .passes) (h .of-items) (omega arith) (omega (arith, h .short)) t a
 
 after-step : (s v t : State) (j : ℕ) → Sound v → Reached s j v → step v ≡ next t → Reached s (suc j) t
-after-step s v t j ok (whole i e steps m) h = after-whole s v i (suc j) e (omega (arith, steps)) (lengths-of _ _ (ok .lengths) .0) m t h
-after-step s v t j ok (part i k u e steps p is) h =
+after-step s v t j ok (wholly i e steps m) h = after-whole s v i (suc j) e (omega (arith, steps)) (lengths-of _ _ (ok .lengths) .0) m t h
+after-step s v t j ok (partly i k u e steps p is) h =
     let lent : rightLength (v .bytes) ≡ true = lengths-of _ _ (ok .lengths) .0 in
     after-part s u i k (suc j) e (omega (arith, steps)) (rw is at lent) p t (rw is at h)
 
@@ -151,7 +151,7 @@ pub steps-reach : (j : ℕ) (s t : State) → Sound s → s .rec .mark ≡ 0 →
 unfolding strides wholes wholeSteps
 steps-reach zero s t ok m e =
     let z : s ≡ t = cc in
-    whole 0 e refl (rw z at m)
+    wholly 0 e refl (rw z at m)
 steps-reach (suc j) s t ok m e = go (λ u q. steps-reach j s u ok m q) (strides j s) refl e
   where
     go : ((u : State) → strides j s ≡ next u → Reached s j u) → (x : Stepped) → strides j s ≡ x → bind x step ≡ next t → Reached s (suc j) t

@@ -6,7 +6,7 @@ use mathlib.Core.List.{List, [], _∷_}
 use lib.Dec.{eqb}
 use Rattle.instructions.specs.declared.words.Refusal.{Refusal}
 use Rattle.instructions.specs.Table.{lookUp}
-use Rattle.instructions.specs.Words as Words
+use Rattle.instructions.specs.Words.{refusalNumber}
 use Rattle.runs.specs.declared.answers.Answer.{Answer}
 use Rattle.runs.specs.declared.answers.Answer.the-variants.{Paused, Exit, Lengths, Impossible, NotThere, NotListed, NotZero, Designator, Misaligned, Short, Outside, Shared}
 use Rattle.runs.specs.declared.answers.Said.{Said}
@@ -19,9 +19,9 @@ numberOf Exit = 1
 numberOf Lengths = 2
 numberOf Impossible = 3
 numberOf NotThere = 4
-numberOf NotListed = Words.numberOf Refusal.NotListed
-numberOf NotZero = Words.numberOf Refusal.NotZero
-numberOf Designator = Words.numberOf Refusal.NoMeaning
+numberOf NotListed = refusalNumber Refusal.NotListed
+numberOf NotZero = refusalNumber Refusal.NotZero
+numberOf Designator = refusalNumber Refusal.NoMeaning
 numberOf Misaligned = 8
 numberOf Short = 9
 numberOf Outside = 10

@@ -33,27 +33,27 @@ unfoldable pub lengthsRight : ℕ → ℕ → Bool
 lengthsRight bytes registers = rightLength bytes && eqb registers 256
 
 -- What a call leaves: the state, the answer, the steps.
-pub record Call : Type 0 where
+pub record Called : Type 0 where
   pub state : State
   pub answer : Answer
   pub steps : ℕ
 
-abbrev pub call : State → Answer → ℕ → Call
+abbrev pub call : State → Answer → ℕ → Called
 call s a n = record { state = s; answer = a; steps = n }
 
 -- 01, Steps: reported steps are those finished in this call: the budget less what is left of it.
-abbrev pub closed : ℕ → Stopped → Call
+abbrev pub closed : ℕ → Stopped → Called
 closed budget z = call (z .state) (z .answer) (budget - z .left)
 
 -- 01, What a call says: "Checked in this order: 2, 3, budget 0, then ..".
-unfoldable pub run : ℕ → State → Call
+unfoldable pub run : ℕ → State → Called
 run budget s =
     cond (lengthsRight (s .bytes) (length (s .registers)))
     (cond (possible (s .bytes) (s .registers) (s .rec)) (closed budget (iterate budget s)) (call s Impossible 0))
     (call s Lengths 0)
 
 -- What an outcome of the code says, with what it leaves: `there` is the state that the memory and registers which it leaves make with a record.
-abbrev pub leaves : (Record → State) → Outcome → Call
+abbrev pub leaves : (Record → State) → Outcome → Called
 leaves there o = call (there (o .rec)) (o .answer) (o .steps)
 
 -- The same state with v in register 00.
@@ -75,10 +75,10 @@ pub record Refused (n : ℕ) (s : State) (v j : ℕ) (t : State) : Type 0 where
   pub verdict : verdictAt t ≡ v
 
 -- One call after another, each on what the one before left: the last one's state and answer, and all their steps.
-abbrev pub afterwards : Call → Call → Call
+abbrev pub afterwards : Called → Called → Called
 afterwards c d = call (d .state) (d .answer) (c .steps + d .steps)
 
-abbrev pub inParts : ℕ → List ℕ → State → Call
+abbrev pub inParts : ℕ → List ℕ → State → Called
 inParts n [] s = run n s
 inParts n (k ∷ ks) s = afterwards (run n s) (inParts k ks (run n s .state))
 

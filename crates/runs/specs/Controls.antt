@@ -12,59 +12,59 @@ use Rattle.runs.specs.Answers.{paused}
 use Rattle.runs.specs.Records.{possible}
 use Rattle.fields.specs.Bytes.{num}
 use Rattle.runs.specs.Steps.{State, at, Stepped, ended, next, step}
-use Rattle.runs.specs.Calls.{lengthsRight, Call, leaves}
+use Rattle.runs.specs.Calls.{lengthsRight, Called, leaves}
 
-abbrev pub control : Record → ℕ → Answer → Control
-control c left a = record { rec = c; left = left; answer = a }
+abbrev pub controlState : Record → ℕ → Answer → Control
+controlState c left a = record { rec = c; left = left; answer = a }
 
 -- A control state beside its memory and registers.
-pub record Seen : Type 0 where
+pub record Sight : Type 0 where
   pub bytes : ℕ
   pub memory : ℕ
   pub registers : List ℕ
   pub control : Control
 
-abbrev pub seen : ℕ → ℕ → List ℕ → Control → Seen
+abbrev pub seen : ℕ → ℕ → List ℕ → Control → Sight
 seen bytes m r c = record { bytes = bytes; memory = m; registers = r; control = c }
 
 -- The same of bytes and registers as they are lent.
-abbrev pub seenAt : List ℕ → List ℕ → Control → Seen
+abbrev pub seenAt : List ℕ → List ℕ → Control → Sight
 seenAt m r c = seen (length m) (num m) r c
 
-abbrev pub stateIn : Seen → State
+abbrev pub stateIn : Sight → State
 stateIn v = at (v .bytes) (v .memory) (v .registers) (v .control .rec)
 
 -- Where a run begins, or ends with 2 or 3.
 unfoldable pub beginning : ℕ → List ℕ → Record → ℕ → Control
 beginning bytes registers c budget =
-    cond (lengthsRight bytes (length registers)) (cond (possible bytes registers c) (control c budget Paused) (control c budget Impossible))
-    (control c budget Lengths)
+    cond (lengthsRight bytes (length registers)) (cond (possible bytes registers c) (controlState c budget Paused) (controlState c budget Impossible))
+    (controlState c budget Lengths)
 
 -- A step with one more than k left of the budget: k are left, or an answer is known.
-abbrev pub turned : Stepped → Seen → ℕ → Seen
-turned (ended a) v k = seen (v .bytes) (v .memory) (v .registers) (control (v .control .rec) (suc k) a)
-turned (next t) v k = seen (t .bytes) (t .memory) (t .registers) (control (t .rec) k Paused)
+abbrev pub controlAfter : Stepped → Sight → ℕ → Sight
+controlAfter (ended a) v k = seen (v .bytes) (v .memory) (v .registers) (controlState (v .control .rec) (suc k) a)
+controlAfter (next t) v k = seen (t .bytes) (t .memory) (t .registers) (controlState (t .rec) k Paused)
 
-abbrev pub turnedAt : ℕ → Seen → Seen
-turnedAt zero v = v
-turnedAt (suc k) v = turned (step (stateIn v)) v k
+abbrev pub controlWithin : ℕ → Sight → Sight
+controlWithin zero v = v
+controlWithin (suc k) v = controlAfter (step (stateIn v)) v k
 
 -- One step of a run. None is taken where an answer is known, nothing is left of the budget, or a length is wrong.
-unfoldable pub turn : Seen → Seen
-turn v = cond (paused (v .control .answer)) (cond (lengthsRight (v .bytes) (length (v .registers))) (turnedAt (v .control .left) v) v) v
+unfoldable pub stepControl : Sight → Sight
+stepControl v = cond (paused (v .control .answer)) (cond (lengthsRight (v .bytes) (length (v .registers))) (controlWithin (v .control .left) v) v) v
 
 -- So many steps of a run.
-abbrev pub turns : ℕ → Seen → Seen
-turns zero v = v
-turns (suc k) v = turns k (turn v)
+abbrev pub stepControls : ℕ → Sight → Sight
+stepControls zero v = v
+stepControls (suc k) v = stepControls k (stepControl v)
 
 -- What a run says, of the budget that it began with.
 unfoldable pub finishing : Control → ℕ → Outcome
 finishing c budget = record { answer = c .answer; steps = budget - c .left; rec = c .rec }
 
 -- A run begun at a state, and what it is finished with: a call.
-abbrev pub beginAt : ℕ → State → Seen
+abbrev pub beginAt : ℕ → State → Sight
 beginAt budget s = seen (s .bytes) (s .memory) (s .registers) (beginning (s .bytes) (s .registers) (s .rec) budget)
 
-abbrev pub finishAt : ℕ → Seen → Call
+abbrev pub finishAt : ℕ → Sight → Called
 finishAt budget v = leaves (at (v .bytes) (v .memory) (v .registers)) (finishing (v .control) budget)

@@ -6,4 +6,4 @@ pub mod Calls
 pub mod Hosts
 pub mod Wholes
 pub mod Controls
-pub mod Inner
+pub mod Private

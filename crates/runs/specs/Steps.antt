@@ -9,7 +9,7 @@ use Rattle.instructions.specs.declared.operands.Operands.{Operands}
 use Rattle.instructions.specs.Fetch.{fetchOf, lengthOf}
 use Rattle.instructions.specs.Operands.{gathered}
 use Rattle.instructions.specs.Verdict.{verdictOf}
-use Rattle.instructions.specs.Items.{Worked, worked}
+use Rattle.instructions.specs.Items.{MemoryAndFlags, worked}
 use Rattle.instructions.specs.Instruction.{byItems, countOf, worksOf, Done, actsOf}
 use Rattle.runs.specs.declared.answers.Answer.{Answer}
 use Rattle.runs.specs.declared.answers.Answer.the-variants.{Impossible}
@@ -59,7 +59,7 @@ itemsAt s = countOf (wordAt s) (operandsAt s)
 -- ONE STEP
 
 -- 01, Steps: memory and flags with items i, .., i + j - 1 of a word worked, one after another.
-abbrev pub worksAt : ℕ → Operands → ℕ → ℕ → State → Worked
+abbrev pub worksAt : ℕ → Operands → ℕ → ℕ → State → MemoryAndFlags
 worksAt word o i j s = worksOf word o (s .bytes) i j (worked (s .memory) (s .rec .flags))
 
 -- 01, Steps: "After a step short of the last, the record is half done"; after the last of n items P is past the word.

@@ -3,7 +3,7 @@ use mathlib.Core.Path.{_≡_}
 use mathlib.Core.Bool.{true, cond}
 use Prim.Native.Nat.{ℕ, zero, suc, _+_, _<_, max}
 use Rattle.instructions.specs.Fetch.{lengthOf}
-use Rattle.instructions.specs.Items.{Worked, worked}
+use Rattle.instructions.specs.Items.{MemoryAndFlags, worked}
 use Rattle.instructions.specs.Instruction.{byItems, wholeOf}
 use Rattle.runs.specs.Answers.{saidOf}
 use Rattle.runs.specs.Records.{half, between}
@@ -11,7 +11,7 @@ use Rattle.runs.specs.Steps.{State, at, Stepped, ended, next, wordAt, op
 
 -- 01, Steps: "exactly that many items worked, from the first on, and nothing of the later ones": memory and flags with the first k items of the word at P, at
 -- once.
-abbrev pub firstItems : ℕ → State → Worked
+abbrev pub firstItems : ℕ → State → MemoryAndFlags
 firstItems k s = wholeOf (wordAt s) (operandsAt s) (s .bytes) k (worked (s .memory) (s .rec .flags))
 
 -- A vector, bit or move instruction with all its items.
@@ -54,5 +54,5 @@ wholeSteps (suc i) s = wholeSteps i s + stepsNext (wholes i s)
 
 -- t is where whole instructions lead from s, or they and the first items of the next one, and j is the instructions' steps and those items.
 pub data Reached (s : State) (j : ℕ) (t : State) : Type 0 where
-  whole : (i : ℕ) → wholes i s ≡ next t → j ≡ wholeSteps i s → t .rec .mark ≡ 0 → Reached s j t
-  part : (i k : ℕ) (u : State) → wholes i s ≡ next u → j ≡ wholeSteps i s + k → Partial u k → t ≡ cutAt k u → Reached s j t
+  wholly : (i : ℕ) → wholes i s ≡ next t → j ≡ wholeSteps i s → t .rec .mark ≡ 0 → Reached s j t
+  partly : (i k : ℕ) (u : State) → wholes i s ≡ next u → j ≡ wholeSteps i s + k → Partial u k → t ≡ cutAt k u → Reached s j t

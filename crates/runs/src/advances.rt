@@ -6,7 +6,7 @@ ghost use Rattle.runs.specs.Answers.{paused};
 ghost use Rattle.runs.specs.Steps.{lentAt};
 ghost use Rattle.runs.specs.Calls.{Sound};
 ghost use Rattle.runs.specs.Controls.{seenAt};
-ghost use Rattle.runs.specs.Inner.{Within, counted, mayGo, Advanced, Gone, Taken, Picked};
+ghost use Rattle.runs.specs.Private.Inner.{AtMost, counted, mayGo, Advanced, Gone, TakenUp, Picked};
 use crate::answers::Answer;
 use crate::answers::is_paused;
 use crate::checks::goes_on;
@@ -20,7 +20,7 @@ use instructions::operands::gather;
 
 // The control state after steps of one instruction, or with its answer.
 pub fn counted(rec: Record, left: u32, got: Performed) -> Control
-    requires { ⌜ Within left got ⌝ }
+    requires { ⌜ AtMost left got ⌝ }
     ensures { λ c. ⌜ c ≡ counted rec left got ⌝ }
 {
     match got {
@@ -95,7 +95,7 @@ fn pick_up(memory: &mut [u8], registers: &[u64], rec: Record, budget: u32) -> Pe
 
 // Begin, and go on at once with what is half done.
 pub fn take_up(memory: &mut [u8], registers: &[u64], rec: Record, budget: u32) -> Control
-    ensures { λ c. ⌜ Taken budget (lentAt (now (memory .entry)) (now (registers .entry)) rec) (seenAt (now (memory .exit)) (now (registers .entry)) c) ⌝ }
+    ensures { λ c. ⌜ TakenUp budget (lentAt (now (memory .entry)) (now (registers .entry)) rec) (seenAt (now (memory .exit)) (now (registers .entry)) c) ⌝ }
 {
     if rec.mark == 1 {
         let got = pick_up(memory, registers, rec, budget);

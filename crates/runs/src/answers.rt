@@ -1,7 +1,7 @@
 // What a call says.
 ghost use mathlib.Core.Path.{_≡_};
 ghost use Rattle.runs.specs.Answers.{numberOf, saidOf, paused};
-ghost use Rattle.runs.specs.Inner.{Tells};
+ghost use Rattle.runs.specs.Private.Inner.{Tells};
 
 pub enum Answer {
     Paused,

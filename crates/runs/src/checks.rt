@@ -3,7 +3,7 @@ ghost use mathlib.Core.Path.{_≡_};
 ghost use lib.ListN.{length};
 ghost use Rattle.runs.specs.Records.{flagsRight, placeRight, betweenTwo, halfDone, possible};
 ghost use Rattle.runs.specs.Calls.{lengthsRight};
-ghost use Rattle.runs.specs.Inner.{holding, goesOn};
+ghost use Rattle.runs.specs.Private.Inner.{holding, goesOn};
 use crate::records::Record;
 use crate::typed::may_work;
 use fields::memory::lent_length_is_right;

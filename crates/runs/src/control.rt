@@ -1,7 +1,7 @@
 // The control state by value: begin, step, finish, each handing the next state back.
 ghost use mathlib.Core.Path.{_≡_};
 ghost use lib.ListN.{length};
-ghost use Rattle.runs.specs.Controls.{seenAt, beginning, turn, finishing};
+ghost use Rattle.runs.specs.Controls.{seenAt, beginning, stepControl, finishing};
 use crate::advances::counted;
 use crate::answers::Answer;
 use crate::answers::is_paused;
@@ -46,7 +46,7 @@ impl Control {
 
     // One step of a run. None is taken where an answer is known, the budget is used, or a length is wrong.
     pub fn step(self, memory: &mut [u8], registers: &mut [u64]) -> Control
-        ensures { λ c. ⌜ seenAt (now (memory .exit)) (now (registers .exit)) c ≡ turn (seenAt (now (memory .entry)) (now (registers .entry)) self) ⌝ }
+        ensures { λ c. ⌜ seenAt (now (memory .exit)) (now (registers .exit)) c ≡ stepControl (seenAt (now (memory .entry)) (now (registers .entry)) self) ⌝ }
     {
         let rec = self.rec;
         let left = self.left;

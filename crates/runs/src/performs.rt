@@ -7,7 +7,7 @@ ghost use Rattle.instructions.specs.Fetch.{lengthOf};
 ghost use Rattle.instructions.specs.Instruction.{countOf};
 ghost use Rattle.runs.specs.Steps.{lentAt, after};
 ghost use Rattle.runs.specs.Calls.{lengthsRight, Sound};
-ghost use Rattle.runs.specs.Inner.{Goes, Bursts, Starts, Resumes, Performs, oneStepAt};
+ghost use Rattle.runs.specs.Private.Inner.{Goes, Bursts, Starts, Resumes, Performs, oneStepAt};
 use crate::answers::Answer;
 use crate::answers::Said;
 use crate::answers::said_by;

@@ -3,7 +3,7 @@ ghost use mathlib.Core.Path.{_≡_};
 ghost use mathlib.Core.Bool.{true};
 ghost use lib.ListN.{length};
 ghost use Rattle.runs.specs.Calls.{lengthsRight};
-ghost use Rattle.runs.specs.Inner.{Strode};
+ghost use Rattle.runs.specs.Private.Inner.{Strode};
 use crate::typed::fetch;
 use crate::typed::one_step;
 use instructions::instruction::act;

@@ -3,7 +3,7 @@ use mathlib.Core.Path.{ap, _∙_}
 use Prim.Native.Nat.{ℕ, _-_}
 use native.Mathlib.Omega.{arith}
 use lib.Pow.{pow-pos}
-use Rattle.instructions.specs.Loops.{spreadOf}
+use Rattle.instructions.specs.Private.Loops.{spreadOf}
 use Rattle.instructions.proofs.Periodic.{whole-power}
 use borrow.Author.Needs.{needs}
 use Rattle.instructions.proofs.bitruns.all_ones.Statement.{statement}

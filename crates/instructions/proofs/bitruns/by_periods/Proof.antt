@@ -6,8 +6,8 @@ use borrow.Author.Needs.{needs}
 use lib.ListN.{length}
 use Rattle.fields.specs.Bytes.{num, size}
 use Rattle.instructions.specs.Items.{worked, turns}
-use Rattle.instructions.specs.Loops.{cursorAt, wovenAt}
-use Rattle.instructions.specs.Plan.{taken}
+use Rattle.instructions.specs.Private.Loops.{cursorAt, wovenAt}
+use Rattle.instructions.specs.Plan.{takenShape}
 use Rattle.instructions.proofs.Periodic.{rAt, sAt, Next, next-chunk, later, chunk-turn, gathered}
 use Rattle.instructions.proofs.bitruns.by_periods.Statement.{statement}
 use Rattle.instructions.proofs.bitruns.by_periods.Tie as tie
@@ -15,7 +15,7 @@ use Rattle.instructions.proofs.bitruns.by_periods.Tie as tie
 abbrev Inv-loop : tie.InvT-loop
 Inv-loop m₀ sides p c t from count n front back r₀ s₀ done₀ m r s done =
     (done ≤ count) × (length m ≡ length m₀) × ((from + done) % p .bits ≡ 0) × (r ≡ rAt sides p (from + done)) × (s ≡ sAt sides p (from + done))
-    × ((f : ℕ) → worked (num m) f ≡ turns (taken c 1 (wovenAt sides p)) (size m₀) from done (worked (num m₀) f))
+    × ((f : ℕ) → worked (num m) f ≡ turns (takenShape c 1 (wovenAt sides p)) (size m₀) from done (worked (num m₀) f))
 
 abbrev μ-loop : tie.MeasureT-loop
 μ-loop m₀ sides p c t from count n front back r₀ s₀ done₀ m r s done = count - done

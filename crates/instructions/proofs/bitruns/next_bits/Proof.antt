@@ -2,7 +2,7 @@
 use Prim.Native.Nat.{_+_, _-_}
 use native.Mathlib.Omega.{arith}
 use borrow.Author.Tests.{lt-ltb, le-ltb}
-use Rattle.instructions.specs.Loops.{Room}
+use Rattle.instructions.specs.Private.Loops.{Room}
 use Rattle.instructions.proofs.bitruns.next_bits.Statement.{statement}
 use Rattle.instructions.proofs.bitruns.next_bits.Tie as tie
 

@@ -3,7 +3,7 @@ use mathlib.Core.Path.{_≡_, refl, ap, _∙_}
 use Prim.Native.Nat.{_+_, _-_, _*_, _≤_}
 use native.Mathlib.Nat.{mul-le-mul-right}
 use native.Mathlib.Omega.{arith}
-use Rattle.instructions.specs.Loops.{spreadOf}
+use Rattle.instructions.specs.Private.Loops.{spreadOf}
 use Rattle.instructions.proofs.Periodic.{spread-more, steps-fit}
 use Rattle.instructions.proofs.bitruns.spread.Statement.{statement}
 use Rattle.instructions.proofs.bitruns.spread.Tie as tie

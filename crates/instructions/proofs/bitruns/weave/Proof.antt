@@ -6,8 +6,8 @@ use borrow.Author.Needs.{needs}
 use lib.ListN.{length}
 use Rattle.fields.specs.Bytes.{num, size}
 use Rattle.instructions.specs.Items.{worked, turns}
-use Rattle.instructions.specs.Loops.{cursorAt, cursorOn, wovenAt}
-use Rattle.instructions.specs.Plan.{taken}
+use Rattle.instructions.specs.Private.Loops.{cursorAt, cursorOn, wovenAt}
+use Rattle.instructions.specs.Plan.{takenShape}
 use Rattle.instructions.specs.declared.bitruns.Cursor.{Cursor}
 use Rattle.instructions.proofs.Weaving.{near, Turn, next-turn, stands-clear, room-for, value-small, weave-turn, cursor-on}
 use Rattle.instructions.proofs.bitruns.weave.Statement.{statement}
@@ -15,7 +15,7 @@ use Rattle.instructions.proofs.bitruns.weave.Tie as tie
 
 abbrev Inv-loop : tie.InvT-loop
 Inv-loop m₀ sides p c from count u₀ done₀ m u done =
-    (done ≤ count) × (length m ≡ length m₀) × (u ≡ cursorAt sides p (from + done)) × ((f : ℕ) → worked (num m) f ≡ turns (taken c 1 (wovenAt sides p)) (size m₀) from done (worked (num m₀) f))
+    (done ≤ count) × (length m ≡ length m₀) × (u ≡ cursorAt sides p (from + done)) × ((f : ℕ) → worked (num m) f ≡ turns (takenShape c 1 (wovenAt sides p)) (size m₀) from done (worked (num m₀) f))
 
 abbrev μ-loop : tie.MeasureT-loop
 μ-loop m₀ sides p c from count u₀ done₀ m u done = count - done

@@ -23,11 +23,11 @@ target-requires c κs = search needs
 returns : tie.Need-returns
 returns c = branch-is (c .before .before .before .before .before .args .word) (c .before .before .before .before .before .args .o) (c .before .before .before .before .designator .ensures .0) (c .before .before .before .sum .ensures) (sym (c .before .if1 .taken) ∙ c .before .before .taken .ensures) (c .target .ensures)
 
-goes-on-requires : tie.Need-goes-on-requires
-goes-on-requires c κs = search needs
+falls-through-requires : tie.Need-falls-through-requires
+falls-through-requires c κs = search needs
 
 returns-2 : tie.Need-returns-2
-returns-2 c = c .goes-on .ensures ∙ branch-is (c .before .before .before .before .before .args .word) (c .before .before .before .before .before .args .o) (c .before .before .before .before .designator .ensures .0) (c .before .before .before .sum .ensures) (sym (c .before .if1 .left) ∙ c .before .before .taken .ensures) refl
+returns-2 c = c .falls-through .ensures ∙ branch-is (c .before .before .before .before .before .args .word) (c .before .before .before .before .before .args .o) (c .before .before .before .before .designator .ensures .0) (c .before .before .before .sum .ensures) (sym (c .before .if1 .left) ∙ c .before .before .taken .ensures) refl
 
 pub branch-spec : {M : Type 1} → statement M
 branch-spec =
@@ -39,5 +39,5 @@ branch-spec =
     taken-requires
     target-requires
     returns
-    goes-on-requires
+    falls-through-requires
     returns-2)

@@ -4,7 +4,7 @@ use Rattle.instructions.specs.declared.items.BitPlan.{BitPlan}
 use Rattle.instructions.specs.declared.items.MovePlan.{MovePlan}
 use Rattle.instructions.specs.Plan.{vectors, bitRuns, byteMove}
 use Rattle.instructions.specs.Planned.{planIn}
-use Rattle.instructions.specs.Loops.{widthAt, makesAt}
+use Rattle.instructions.specs.Private.Loops.{widthAt, makesAt}
 use Rattle.instructions.proofs.Counting.{planned-at, vector-plans}
 use Rattle.instructions.proofs.Stepped.{work-asks, vector-asks, work-did, none-did}
 use borrow.Author.Needs.{needs}

@@ -3,7 +3,7 @@ use mathlib.Core.Path.{refl, sym, ap₂, _∙_}
 use native.Mathlib.Omega.{arith}
 use borrow.Author.Needs.{needs}
 use lib.Dec.{eqb}
-use Rattle.instructions.specs.Loops.{Gate}
+use Rattle.instructions.specs.Private.Loops.{Gate}
 use Rattle.instructions.proofs.Gates.{sense-is}
 use Rattle.instructions.proofs.loops.gate.Statement.{statement}
 use Rattle.instructions.proofs.loops.gate.Tie as tie

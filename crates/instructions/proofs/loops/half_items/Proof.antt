@@ -7,7 +7,7 @@ use borrow.Author.Needs.{needs}
 use lib.ListN.{length}
 use Rattle.fields.specs.Bytes.{num, size}
 use Rattle.instructions.specs.Items.{worked, turns}
-use Rattle.instructions.specs.Loops.{laned, makesAt}
+use Rattle.instructions.specs.Private.Loops.{laned, makesAt}
 use Rattle.instructions.proofs.Turning.{lanes-turn}
 use Rattle.instructions.proofs.loops.half_items.Statement.{statement}
 use Rattle.instructions.proofs.loops.half_items.Tie as tie

@@ -6,14 +6,14 @@ use borrow.Author.Needs.{needs}
 use lib.ListN.{length, getD, length-set}
 use Rattle.fields.specs.Bytes.{num, size, Bytes}
 use Rattle.instructions.specs.Items.{worked, turns, bits}
-use Rattle.instructions.specs.Plan.{taken}
+use Rattle.instructions.specs.Plan.{takenShape}
 use Rattle.instructions.proofs.Turning.{byte-turn, byte-read}
 use Rattle.instructions.proofs.moves.copy.Statement.{statement}
 use Rattle.instructions.proofs.moves.copy.Tie as tie
 
 abbrev Inv-loop : tie.InvT-loop
 Inv-loop m₀ k kc from count j₀ m j =
-    (j ≤ count) × (length m ≡ length m₀) × ((f : ℕ) → worked (num m) f ≡ turns (taken (8 * kc) 8 (λ i. bits (8 * k + i * 8))) (size m₀) from j (worked (num m₀) f))
+    (j ≤ count) × (length m ≡ length m₀) × ((f : ℕ) → worked (num m) f ≡ turns (takenShape (8 * kc) 8 (λ i. bits (8 * k + i * 8))) (size m₀) from j (worked (num m₀) f))
 
 abbrev μ-loop : tie.MeasureT-loop
 μ-loop m₀ k kc from count j₀ m j = count - j

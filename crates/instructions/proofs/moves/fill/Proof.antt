@@ -7,14 +7,14 @@ use lib.ListN.{length, length-set}
 use Rattle.fields.proofs.Lists.{bytes-set}
 use Rattle.fields.specs.Bytes.{num, size, Bytes}
 use Rattle.instructions.specs.Items.{worked, turns, fixed}
-use Rattle.instructions.specs.Plan.{taken}
+use Rattle.instructions.specs.Plan.{takenShape}
 use Rattle.instructions.proofs.Turning.{byte-turn}
 use Rattle.instructions.proofs.moves.fill.Statement.{statement}
 use Rattle.instructions.proofs.moves.fill.Tie as tie
 
 abbrev Inv-loop : tie.InvT-loop
 Inv-loop m₀ v kc from count j₀ m j =
-    (j ≤ count) × (length m ≡ length m₀) × Bytes m × ((f : ℕ) → worked (num m) f ≡ turns (taken (8 * kc) 8 (λ i. fixed v)) (size m₀) from j (worked (num m₀) f))
+    (j ≤ count) × (length m ≡ length m₀) × Bytes m × ((f : ℕ) → worked (num m) f ≡ turns (takenShape (8 * kc) 8 (λ i. fixed v)) (size m₀) from j (worked (num m₀) f))
 
 abbrev μ-loop : tie.MeasureT-loop
 μ-loop m₀ v kc from count j₀ m j = count - j

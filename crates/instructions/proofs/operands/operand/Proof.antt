@@ -1,7 +1,7 @@
 -- Number 00, or the register.
 use borrow.Author.Needs.{needs}
 use borrow.Author.Tests.{eq-eqb, ne-eqb}
-use Rattle.instructions.specs.Operands.{named}
+use Rattle.instructions.specs.Operands.{supplied}
 use Rattle.instructions.proofs.operands.operand.Statement.{statement}
 use Rattle.instructions.proofs.operands.operand.Tie as tie
 
@@ -9,7 +9,7 @@ designator-requires : tie.Need-designator-requires
 designator-requires c κs = search needs
 
 returns : tie.Need-returns
-unfolding named
+unfolding supplied
 returns c = rw (← c .before .designator .ensures .0, eq-eqb _ _ (c .if1 .taken))
 
 mul-result : tie.Need-mul-result
@@ -19,7 +19,7 @@ shared-slice-read-result : tie.Need-shared-slice-read-result
 shared-slice-read-result c = search needs
 
 returns-2 : tie.Need-returns-2
-unfolding named
+unfolding supplied
 returns-2 c = rw (← c .before .before .designator .ensures .0, ne-eqb _ _ (c .before .if1 .left))
 
 pub operand-spec : {M : Type 1} → statement M

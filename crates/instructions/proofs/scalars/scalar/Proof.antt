@@ -117,8 +117,8 @@ store-word-requires c κs = search needs
 branch-requires : tie.Need-branch-requires
 branch-requires c κs = search needs
 
-goes-on-requires : tie.Need-goes-on-requires
-goes-on-requires c κs = search needs
+falls-through-requires : tie.Need-falls-through-requires
+falls-through-requires c κs = search needs
 
 returns : tie.Need-returns
 returns c = chosen _ _ _ _ (c .before .before .before .code-in .ensures .0) (c .before .match .keys1) (c .load-byte .ensures ∙ ap (λ (t : ℕ). loadByteOf t (c .before .before .before .before .before .args .o) (length (now (c .before .before .before .before .before .args .m))) (num (now (c .before .before .before .before .before .args .m)))) (c .before .before .designator .ensures .0))
@@ -178,7 +178,7 @@ returns-19 : tie.Need-returns-19
 returns-19 c = branched _ _ _ _ (c .before .before .before .before .before .code-in .ensures .0) (c .before .before .if1 .left) (c .before .if2 .taken) (c .branch .ensures)
 
 returns-20 : tie.Need-returns-20
-returns-20 c = nothing _ _ _ _ (c .before .before .before .before .code-in .ensures .0) (c .before .before .match .rest) (⊎-elim (λ p. inl (omega arith)) (λ p. inr (omega arith)) (c .before .if1 .came)) (c .goes-on .ensures)
+returns-20 c = nothing _ _ _ _ (c .before .before .before .before .code-in .ensures .0) (c .before .before .match .rest) (⊎-elim (λ p. inl (omega arith)) (λ p. inr (omega arith)) (c .before .if1 .came)) (c .falls-through .ensures)
 
 pub scalar-spec : {M : Type 1} → statement M
 scalar-spec =
@@ -219,7 +219,7 @@ scalar-spec =
     load-word-requires
     store-word-requires
     branch-requires
-    goes-on-requires
+    falls-through-requires
     returns
     returns-2
     returns-3

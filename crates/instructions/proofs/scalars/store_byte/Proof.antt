@@ -10,11 +10,11 @@ byte-address-requires c κs = search needs
 cast-value : tie.Need-cast-value
 cast-value c = search needs
 
-goes-on-requires : tie.Need-goes-on-requires
-goes-on-requires c κs = search needs
+falls-through-requires : tie.Need-falls-through-requires
+falls-through-requires c κs = search needs
 
 returns : tie.Need-returns
-returns c = rw (← right-byte (c .before .before .before .args .o .a), ← c .before .before .byte-address .ensures) (c .goes-on .ensures)
+returns c = rw (← right-byte (c .before .before .before .args .o .a), ← c .before .before .byte-address .ensures) (c .falls-through .ensures)
 
 pub store-byte-spec : {M : Type 1} → statement M
-store-byte-spec = tie.close (tie.spec byte-address-requires cast-value goes-on-requires returns)
+store-byte-spec = tie.close (tie.spec byte-address-requires cast-value falls-through-requires returns)

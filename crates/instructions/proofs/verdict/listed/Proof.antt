@@ -4,7 +4,7 @@ use borrow.Author.Tests.{eq-eqb, ne-eqb}
 use Rattle.instructions.specs.declared.layout.Fields.{Fields}
 use Rattle.instructions.specs.declared.table.Kind.{Kind}
 use Rattle.instructions.specs.Layout.{ofKind}
-use Rattle.instructions.specs.Inner.{listedOf, refusalOf}
+use Rattle.instructions.specs.Private.Inner.{listedOf, refusalOf}
 use borrow.Author.Needs.{needs}
 use Rattle.instructions.proofs.verdict.listed.Statement.{statement}
 use Rattle.instructions.proofs.verdict.listed.Tie as tie

@@ -3,7 +3,7 @@ use mathlib.Core.Path.{ap, _∙_}
 use Rattle.instructions.specs.declared.layout.Fields.{Fields}
 use Rattle.instructions.specs.declared.table.Kind.{Kind}
 use Rattle.instructions.specs.Layout.{ofKind}
-use Rattle.instructions.specs.Inner.{refusalOf}
+use Rattle.instructions.specs.Private.Inner.{refusalOf}
 use Rattle.instructions.proofs.VerdictSteps.{refused-no-work, itemless-no-work, not-there-no-work, work-judged}
 use borrow.Author.Tests.{not-true, not-false}
 use borrow.Author.Needs.{needs}

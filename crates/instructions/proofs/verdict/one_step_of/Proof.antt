@@ -1,7 +1,7 @@
 -- Arm by arm: the kind that the arm was chosen for.
 use mathlib.Core.Path.{ap, _∙_}
 use Rattle.fields.specs.declared.extents.Field.{Field}
-use Rattle.instructions.specs.Inner.{reachedBy, oneStepOf}
+use Rattle.instructions.specs.Private.Inner.{alignedInside, oneStepOf}
 use borrow.Author.Needs.{needs}
 use Rattle.instructions.proofs.verdict.one_step_of.Statement.{statement}
 use Rattle.instructions.proofs.verdict.one_step_of.Tie as tie
@@ -89,19 +89,19 @@ returns-3 c = rw (c .before .enum-told3 .given .1) (c .arrives .ensures)
 
 returns-4 : tie.Need-returns-4
 unfolding oneStepOf
-returns-4 c = rw (c .before .before .enum-told4 .given .1) (c .reached .ensures ∙ ap (λ (f : Field). reachedBy f (c .before .before .before .before .args .lent .0)) (c .before .byte-at .ensures))
+returns-4 c = rw (c .before .before .enum-told4 .given .1) (c .reached .ensures ∙ ap (λ (f : Field). alignedInside f (c .before .before .before .before .args .lent .0)) (c .before .byte-at .ensures))
 
 returns-5 : tie.Need-returns-5
 unfolding oneStepOf
-returns-5 c = rw (c .before .before .enum-told5 .given .1) (c .reached2 .ensures ∙ ap (λ (f : Field). reachedBy f (c .before .before .before .before .args .lent .0)) (c .before .byte-at2 .ensures))
+returns-5 c = rw (c .before .before .enum-told5 .given .1) (c .reached2 .ensures ∙ ap (λ (f : Field). alignedInside f (c .before .before .before .before .args .lent .0)) (c .before .byte-at2 .ensures))
 
 returns-6 : tie.Need-returns-6
 unfolding oneStepOf
-returns-6 c = rw (c .before .before .enum-told6 .given .1) (c .reached3 .ensures ∙ ap (λ (f : Field). reachedBy f (c .before .before .before .before .args .lent .0)) (c .before .word-at .ensures))
+returns-6 c = rw (c .before .before .enum-told6 .given .1) (c .reached3 .ensures ∙ ap (λ (f : Field). alignedInside f (c .before .before .before .before .args .lent .0)) (c .before .word-at .ensures))
 
 returns-7 : tie.Need-returns-7
 unfolding oneStepOf
-returns-7 c = rw (c .before .before .enum-told7 .given .1) (c .reached4 .ensures ∙ ap (λ (f : Field). reachedBy f (c .before .before .before .before .args .lent .0)) (c .before .word-at2 .ensures))
+returns-7 c = rw (c .before .before .enum-told7 .given .1) (c .reached4 .ensures ∙ ap (λ (f : Field). alignedInside f (c .before .before .before .before .args .lent .0)) (c .before .word-at2 .ensures))
 
 returns-8 : tie.Need-returns-8
 unfolding oneStepOf

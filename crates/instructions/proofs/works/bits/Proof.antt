@@ -2,7 +2,7 @@
 use Prim.Native.Nat.{ℕ, _+_, _<_}
 use native.Mathlib.Omega.{arith}
 use borrow.Author.Needs.{needs}
-use Rattle.instructions.specs.Plan.{shape}
+use Rattle.instructions.specs.Plan.{shapeOf}
 use Rattle.instructions.proofs.Working.{of-bits, bits-ready, bits-worked}
 use Rattle.instructions.proofs.works.bits.Statement.{statement}
 use Rattle.instructions.proofs.works.bits.Tie as tie
@@ -20,7 +20,7 @@ same-length : tie.Need-same-length
 same-length c = search needs
 
 returns : tie.Need-returns
-unfolding shape
+unfolding shapeOf
 returns c =
     let s = c .before .before .before .before .before in
     let a = s .args in

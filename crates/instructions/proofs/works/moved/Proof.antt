@@ -2,7 +2,7 @@
 use Prim.Native.Nat.{ℕ, _+_, _<_}
 use native.Mathlib.Omega.{arith}
 use borrow.Author.Needs.{needs}
-use Rattle.instructions.specs.Plan.{shape}
+use Rattle.instructions.specs.Plan.{shapeOf}
 use Rattle.instructions.proofs.Working.{of-move, move-ready}
 use Rattle.instructions.proofs.works.moved.Statement.{statement}
 use Rattle.instructions.proofs.works.moved.Tie as tie
@@ -20,7 +20,7 @@ same-length : tie.Need-same-length
 same-length c = search needs
 
 returns : tie.Need-returns
-unfolding shape
+unfolding shapeOf
 returns c = c .before .before .move-bytes .ensures (c .before .before .before .before .before .args .flags)
 
 pub moved-spec : {M : Type 1} → statement M

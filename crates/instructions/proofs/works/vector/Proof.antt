@@ -2,8 +2,8 @@
 use Prim.Native.Nat.{ℕ, _+_, _<_}
 use native.Mathlib.Omega.{arith}
 use borrow.Author.Needs.{needs}
-use Rattle.instructions.specs.Plan.{shape}
-use Rattle.instructions.specs.Loops.{widthAt, makesAt}
+use Rattle.instructions.specs.Plan.{shapeOf}
+use Rattle.instructions.specs.Private.Loops.{widthAt, makesAt}
 use Rattle.instructions.proofs.Working.{vector-wide, of-vector, vector-ready, vector-worked}
 use Rattle.instructions.proofs.works.vector.Statement.{statement}
 use Rattle.instructions.proofs.works.vector.Tie as tie
@@ -21,7 +21,7 @@ same-length : tie.Need-same-length
 same-length c = search needs
 
 returns : tie.Need-returns
-unfolding shape
+unfolding shapeOf
 returns c =
     let s = c .before .before .before .before .before in
     let a = s .args in

@@ -7,7 +7,7 @@ use Rattle.runs.specs.Answers.{paused}
 use Rattle.runs.specs.Steps.{lentAt}
 use Rattle.runs.specs.Calls.{Sound}
 use Rattle.runs.specs.Controls.{seenAt}
-use Rattle.runs.specs.Inner.{resume}
+use Rattle.runs.specs.Private.Inner.{resume}
 use Rattle.runs.proofs.advances.go.Statement.{statement}
 use Rattle.runs.proofs.advances.go.Tie as tie
 

@@ -8,7 +8,7 @@ use Rattle.runs.proofs.Choices.{ne-pos}
 use Rattle.runs.proofs.Soundness.{lengths-of}
 use Rattle.runs.proofs.Taking.{picks-2, picks-3, picks-0, picks-goes, picks-up}
 use Rattle.runs.specs.Calls.{lengthsRight}
-use Rattle.runs.specs.Inner.{goesOn}
+use Rattle.runs.specs.Private.Inner.{goesOn}
 use Rattle.runs.proofs.advances.pick_up.Statement.{statement}
 use Rattle.runs.proofs.advances.pick_up.Tie as tie
 

@@ -2,7 +2,7 @@
 use mathlib.Core.Path.{sym}
 use borrow.Author.Needs.{needs}
 use borrow.Author.Tests.{not-true, not-false}
-use Rattle.runs.specs.Inner.{goesOn}
+use Rattle.runs.specs.Private.Inner.{goesOn}
 use Rattle.runs.proofs.checks.goes_on.Statement.{statement}
 use Rattle.runs.proofs.checks.goes_on.Tie as tie
 

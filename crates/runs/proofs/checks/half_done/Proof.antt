@@ -2,7 +2,7 @@
 use borrow.Author.Needs.{needs}
 use borrow.Author.Tests.{eq-eqb, ne-eqb}
 use Rattle.runs.specs.Records.{halfDone}
-use Rattle.runs.specs.Inner.{holding}
+use Rattle.runs.specs.Private.Inner.{holding}
 use Rattle.runs.proofs.checks.half_done.Statement.{statement}
 use Rattle.runs.proofs.checks.half_done.Tie as tie
 

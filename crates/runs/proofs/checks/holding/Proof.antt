@@ -9,7 +9,7 @@ use Rattle.instructions.specs.declared.operands.Operands.{Operands}
 use Rattle.instructions.specs.Instruction.{byItems, mayWork, countOf}
 use Rattle.instructions.specs.Verdict.{verdictOf}
 use Rattle.runs.specs.declared.records.Record.{Record}
-use Rattle.runs.specs.Inner.{holding}
+use Rattle.runs.specs.Private.Inner.{holding}
 use Rattle.runs.proofs.checks.holding.Statement.{statement}
 use Rattle.runs.proofs.checks.holding.Tie as tie
 

@@ -7,7 +7,7 @@ use borrow.Author.Tests.{not-true, not-false}
 use Rattle.runs.proofs.Soundness.{lengths-of}
 use Rattle.runs.proofs.Striding.{one-step-passes, not-one-step, stride-on, no-stride}
 use Rattle.runs.specs.Steps.{next, strides}
-use Rattle.runs.specs.Inner.{strideAt}
+use Rattle.runs.specs.Private.Inner.{strideAt}
 use Rattle.runs.proofs.strides.stride.Statement.{statement}
 use Rattle.runs.proofs.strides.stride.Tie as tie
 

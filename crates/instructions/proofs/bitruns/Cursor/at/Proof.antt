@@ -4,7 +4,7 @@ use Prim.Native.Nat.{_/_, _≤_}
 use native.Mathlib.Nat.{div-le-self}
 use native.Mathlib.Omega.{arith}
 use borrow.Author.Needs.{needs}
-use Rattle.instructions.specs.Loops.{cursorAt}
+use Rattle.instructions.specs.Private.Loops.{cursorAt}
 use Rattle.instructions.proofs.Weaving.{parts-fit}
 use Rattle.instructions.proofs.bitruns.Cursor.at.Statement.{statement}
 use Rattle.instructions.proofs.bitruns.Cursor.at.Tie as tie

@@ -1,12 +1,12 @@
--- `instructions::vectors::by_code` meets its contract. Each code is the one that its function names.
+-- `instructions::forms::by_code` meets its contract. Each code is the one that its function names.
 use mathlib.Core.Path.{refl}
 use Prim.Native.Nat.{_+_}
 use native.Mathlib.Omega.{arith}
 use Rattle.instructions.proofs.ByCode.{not-wide}
 use Rattle.instructions.proofs.Planned.{reach-at, single-reach, turned-at, single-turned}
 use borrow.Author.Needs.{needs}
-use Rattle.instructions.proofs.vectors.by_code.Statement.{statement}
-use Rattle.instructions.proofs.vectors.by_code.Tie as tie
+use Rattle.instructions.proofs.forms.by_code.Statement.{statement}
+use Rattle.instructions.proofs.forms.by_code.Tie as tie
 
 add-requires : tie.Need-add-requires
 add-requires c κs =

@@ -5,6 +5,7 @@ use mathlib.Core.Logic.{_⊎_}
 use mathlib.Core.List.{List}
 use Prim.Native.Nat.{ℕ, _+_, _*_, _%_, _^_, _≤_, _<_, min}
 use lib.ListN.{length}
+use Rattle.fields.specs.declared.extents.Unit.the-variants.{Byte, Word}
 use Rattle.fields.specs.Field.{Apart}
 use Rattle.fields.specs.Bytes.{size}
 use Rattle.fields.specs.Gathers.{pastR, pastS, furthest}
@@ -20,8 +21,7 @@ use Rattle.instructions.specs.declared.items.MovePlan.{MovePlan}
 use Rattle.fields.specs.Memory.{AtByte}
 use Rattle.instructions.specs.declared.operands.Operands.{Operands}
 use Rattle.instructions.specs.Meanings.{toT, toHalfT, loadsByte, loadsWord, storesByte, storesWord, Meaning, unlisted, exits, acts, branches, works}
-use Rattle.instructions.specs.Operands.{meaningIn}
-use Rattle.instructions.specs.Scalars.{byteAt, wordAt}
+use Rattle.instructions.specs.Operands.{meaningIn, addressIn}
 use Rattle.instructions.specs.Plan.{takenBy, bitItems, Plan, vectors, bitRuns, byteMove, itemsOf}
 
 -- 01, numbers 10 and 11: the n bits at a are in memory and share none with the k bits at c; a field "that nothing is read from is empty and is not checked".
@@ -58,12 +58,22 @@ abbrev pub SecondPasses : ℕ → ℕ → ℕ → ℕ → SecondBits → Type 0
 SecondPasses L c n e (From b) = (b < 2 ^ 48) × Away L c n b e
 SecondPasses L c n e Zeros = Unit {0}
 
+-- the items of a bit instruction, and how far they read R and S
+abbrev pub bitsOf : BitPlan → ℕ
+bitsOf b = bitItems (b .rule) (b .runs)
+
+abbrev pub extentR : BitPlan → ℕ
+extentR b = furthest (λ j. pastR (takenBy (b .rule) (b .runs) j)) (bitsOf b)
+
+abbrev pub extentS : BitPlan → ℕ
+extentS b = furthest (λ j. pastS (takenBy (b .rule) (b .runs) j)) (bitsOf b)
+
 -- 01, numbers 10 and 11, of a bit instruction's result and of R and S.
 pub record BitsPass (L : ℕ) (b : BitPlan) : Type 0 where
-  pub upto : b .result + bitItems (b .rule) (b .runs) ≤ L
+  pub upto : b .result + bitsOf b ≤ L
   pub near : b .first < 2 ^ 48
-  pub first : Away L (b .result) (bitItems (b .rule) (b .runs)) (b .first) (furthest (λ j. pastR (takenBy (b .rule) (b .runs) j)) (bitItems (b .rule) (b .runs)))
-  pub second : SecondPasses L (b .result) (bitItems (b .rule) (b .runs)) (furthest (λ j. pastS (takenBy (b .rule) (b .runs) j)) (bitItems (b .rule) (b .runs))) (b .second)
+  pub first : Away L (b .result) (bitsOf b) (b .first) (extentR b)
+  pub second : SecondPasses L (b .result) (bitsOf b) (extentS b) (b .second)
 
 -- 01, numbers 8, 10 and 11, of a move: as many bytes of the source as there are items are read, or all that it has.
 pub record MovePasses (L : ℕ) (v : MovePlan) : Type 0 where
@@ -85,17 +95,17 @@ pub record Ready (m : List ℕ) (p : Plan) : Type 0 where
   pub accepted : 0 < itemsOf p → Accepted (size m) p
 
 -- What the step of any other asks: 01, numbers 8 and 10, of the address of a load or a store.
-abbrev pub ReachedBy : Meaning → Operands → List ℕ → Type 0
-ReachedBy unlisted o m = Unit {0}
-ReachedBy exits o m = Unit {0}
-ReachedBy (acts (toT f)) o m = Unit {0}
-ReachedBy (acts (toHalfT f)) o m = Unit {0}
-ReachedBy (acts loadsByte) o m = AtByte m (byteAt o .0) 8
-ReachedBy (acts loadsWord) o m = AtByte m (wordAt o .0) 64
-ReachedBy (acts storesByte) o m = AtByte m (byteAt o .0) 8
-ReachedBy (acts storesWord) o m = AtByte m (wordAt o .0) 64
-ReachedBy (branches c) o m = Unit {0}
-ReachedBy (works k) o m = Unit {0}
+abbrev pub AddressThereBy : Meaning → Operands → List ℕ → Type 0
+AddressThereBy unlisted o m = Unit {0}
+AddressThereBy exits o m = Unit {0}
+AddressThereBy (acts (toT f)) o m = Unit {0}
+AddressThereBy (acts (toHalfT f)) o m = Unit {0}
+AddressThereBy (acts loadsByte) o m = AtByte m (addressIn Byte o .0) 8
+AddressThereBy (acts loadsWord) o m = AtByte m (addressIn Word o .0) 64
+AddressThereBy (acts storesByte) o m = AtByte m (addressIn Byte o .0) 8
+AddressThereBy (acts storesWord) o m = AtByte m (addressIn Word o .0) 64
+AddressThereBy (branches c) o m = Unit {0}
+AddressThereBy (works k) o m = Unit {0}
 
-unfoldable pub Reached : ℕ → Operands → List ℕ → Type 0
-Reached w o m = ReachedBy (meaningIn w) o m
+unfoldable pub AddressThere : ℕ → Operands → List ℕ → Type 0
+AddressThere w o m = AddressThereBy (meaningIn w) o m

@@ -8,7 +8,7 @@ use lib.ListN.{length}
 use Rattle.fields.specs.Bytes.{num}
 use Rattle.fields.specs.Memory.{rightLength}
 use Rattle.instructions.specs.declared.operands.Operands.{Operands}
-use Rattle.instructions.specs.Inner.{Past}
+use Rattle.instructions.specs.Private.Inner.{Past}
 use Rattle.instructions.specs.Table.{lookUp}
 use Rattle.instructions.specs.Verdict.{verdictOf}
 use Rattle.instructions.specs.Items.{worked}
@@ -25,7 +25,7 @@ use Rattle.runs.specs.Answers.{numberOf, refusals, paused}
 use Rattle.runs.specs.Records.{flagsRight, placeRight, halfDone, between}
 use Rattle.runs.specs.Steps.{State, lentAt, ended, next, step, strides, after, wordAt, operandsAt}
 use Rattle.runs.specs.Calls.{Stopped, iterate, lengthsRight, Sound}
-use Rattle.runs.specs.Controls.{control, Seen, stateIn, beginAt}
+use Rattle.runs.specs.Controls.{controlState, Sight, stateIn, beginAt}
 
 -- What the cases of the look-up show: the number is that of an answer which the list gives for it, or it is the number of none of the list.
 abbrev pub Tells : Said → ℕ → Type 0
@@ -79,46 +79,46 @@ pub record Strode (m r : List ℕ) (start : Pace) (m' r' : List ℕ) (s : Pace) 
   pub over : 0 < s .left → oneStepAt (strideAt m' r' s) ≡ false
 
 -- No more steps were done than are left.
-abbrev pub Within : ℕ → Performed → Type 0
-Within left (Did c j) = j ≤ left
-Within left (Ended a) = Unit {0}
+abbrev pub AtMost : ℕ → Performed → Type 0
+AtMost left (Did c j) = j ≤ left
+AtMost left (Ended a) = Unit {0}
 
 -- The control state after steps of one instruction, or with its answer.
 abbrev pub counted : Record → ℕ → Performed → Control
-counted c left (Did d j) = control d (left - j) Paused
-counted c left (Ended a) = control c left a
+counted c left (Did d j) = controlState d (left - j) Paused
+counted c left (Ended a) = controlState c left a
 
 -- Is there a step to do?
 abbrev pub mayGo : Control → Bool
 mayGo c = paused (c .answer) && ltb 0 (c .left)
 
 -- Where a control state leads.
-unfoldable pub resume : Seen → Stopped
+unfoldable pub resume : Sight → Stopped
 resume v =
     cond (paused (v .control .answer)) (iterate (v .control .left) (stateIn v))
     (record { state = stateIn v; answer = v .control .answer; left = v .control .left })
 
 -- A control state after some steps leads where it led; less is left, or an answer is known; and it is sound where no answer is known.
-pub record Advanced (v w : Seen) : Type 0 where
+pub record Advanced (v w : Sight) : Type 0 where
   pub same : resume w ≡ resume v
   pub most : w .control .left ≤ v .control .left
   pub less : paused (w .control .answer) ≡ true → w .control .left < v .control .left
   pub sound : paused (w .control .answer) ≡ true → Sound (stateIn w)
 
 -- A control state for which nothing is left to do, where another led.
-pub record Gone (v w : Seen) : Type 0 where
+pub record Gone (v w : Sight) : Type 0 where
   pub same : resume w ≡ resume v
   pub over : mayGo (w .control) ≡ false
 
 -- A control state that leads where a call of this budget at s leads, and is sound where no answer is known.
-pub record Taken (budget : ℕ) (s : State) (w : Seen) : Type 0 where
+pub record TakenUp (budget : ℕ) (s : State) (w : Sight) : Type 0 where
   pub same : resume w ≡ resume (beginAt budget s)
   pub sound : paused (w .control .answer) ≡ true → Sound (stateIn w)
 
 -- What is done at once of what is half done at s, within the budget. `there` is a control state beside the memory and registers that are left.
-pub record Picked (budget : ℕ) (s : State) (there : Control → Seen) (x : Performed) : Type 0 where
-  pub within : Within budget x
-  pub taken : Taken budget s (there (counted (s .rec) budget x))
+pub record Picked (budget : ℕ) (s : State) (there : Control → Sight) (x : Performed) : Type 0 where
+  pub within : AtMost budget x
+  pub taken : TakenUp budget s (there (counted (s .rec) budget x))
 
 -- `halfDone` of a record with the mark, with the operands given.
 unfoldable pub holding : ℕ → Operands → Record → Bool

@@ -1,7 +1,7 @@
--- `instructions::vectors::vector` meets its contract. The plan's numbers say what the plan says.
+-- `instructions::forms::vector` meets its contract. The plan's numbers say what the plan says.
 use borrow.Author.Needs.{needs}
-use Rattle.instructions.proofs.vectors.vector.Statement.{statement}
-use Rattle.instructions.proofs.vectors.vector.Tie as tie
+use Rattle.instructions.proofs.forms.vector.Statement.{statement}
+use Rattle.instructions.proofs.forms.vector.Tie as tie
 
 lanes-of-requires : tie.Need-lanes-of-requires
 lanes-of-requires c κs = search needs

@@ -26,11 +26,13 @@ use Rattle.instructions.specs.declared.bitruns.Cursor.{Cursor}
 use Rattle.instructions.specs.declared.lanes.Lane.{Lane}
 use Rattle.instructions.specs.declared.lanes.Gating.{Gating}
 use Rattle.instructions.specs.declared.lanes.Lanes.{Lanes}
+use Rattle.instructions.specs.declared.items.BitPlan.{BitPlan}
+use Rattle.instructions.specs.declared.items.MovePlan.{MovePlan}
 use Rattle.instructions.specs.declared.items.Made.{Made}
 use Rattle.instructions.specs.Meanings.{plain, gathers, eachOfAB, eachOfA, halfOfA, moves, Meaning, unlisted, exits, acts, branches, works}
 use Rattle.instructions.specs.Table.{meaningOf}
 use Rattle.instructions.specs.Items.{Place, bits, fixed, Shape, Turned}
-use Rattle.instructions.specs.Plan.{vector}
+use Rattle.instructions.specs.Plan.{vectorShape, takenShape, byteOf}
 
 -- ---- vectors
 
@@ -55,10 +57,13 @@ unfoldable pub lanesFor : VectorPlan → Lanes
 lanesFor v = record { a = laneOf (v .first); b = laneOf (v .second); z = gatingOf (v .control); c = v .result / 8 }
 
 abbrev pub laned : (ℕ → ℕ → Made) → ℕ → Bool → Bool → Bool → Lane → Lane → Gating → ℕ → Shape
-laned g w fa fb fz a b z c = vector (sourceBy fa a) (sourceBy fb b) (controlBy fz z) (8 * c) w g
+laned g w fa fb fz a b z c = vectorShape (sourceBy fa a) (sourceBy fb b) (controlBy fz z) (8 * c) w g
 
 abbrev pub lanesOf : (ℕ → ℕ → Made) → ℕ → Lanes → Shape
 lanesOf g w at = laned g w (at .a .field) (at .b .field) (at .z .some) (at .a) (at .b) (at .z) (at .c)
+
+abbrev pub lanesAlone : (ℕ → ℕ → Made) → ℕ → Lanes → Shape
+lanesAlone g w at = laned g w (at .a .field) false (at .z .some) (at .a) (at .b) (at .z) (at .c)
 
 -- n items of k bytes at byte c, their sources and their control bits lie in m
 pub record InReach (m : List ℕ) (fa fb fz : Bool) (a b : Lane) (z : Gating) (c k n : ℕ) : Type 0 where
@@ -72,6 +77,9 @@ pub record InReach (m : List ℕ) (fa fb fz : Bool) (a b : Lane) (z : Gating) (c
 
 abbrev pub LanesReach : List ℕ → Lanes → ℕ → ℕ → Type 0
 LanesReach m at k n = InReach m (at .a .field) (at .b .field) (at .z .some) (at .a) (at .b) (at .z) (at .c) k n
+
+abbrev pub AloneReach : List ℕ → Lanes → ℕ → ℕ → Type 0
+AloneReach m at k n = InReach m (at .a .field) false (at .z .some) (at .a) (at .b) (at .z) (at .c) k n
 
 -- what the vector of a function makes of two words, and how wide its items are; of no other function is either asked
 abbrev pub makesBy : Meaning → ℕ → ℕ → Made
@@ -133,8 +141,8 @@ pub record Settled (m : List ℕ) (a w : ℕ) (go : Bool) (new : Made) (f : ℕ)
   pub sets : f' ≡ bitOr f (cond go (new .flags) 0)
 
 -- as Turned, of a shape that sets no flags: whatever they are
-abbrev pub Done : Shape → ℕ → ℕ → List ℕ → List ℕ → Type 0
-Done s from k m m' = (f : ℕ) → Turned s from k m f m' f
+abbrev pub TurnedQuietly : Shape → ℕ → ℕ → List ℕ → List ℕ → Type 0
+TurnedQuietly s from k m m' = (f : ℕ) → Turned s from k m f m' f
 
 -- ---- move: n bytes are worked, of which the source has some
 
@@ -192,6 +200,13 @@ RoomFor m n (fixed v) = Unit {0}
 abbrev pub wovenAt : Sides → Period → ℕ → Place
 wovenAt d p i = standsAt (d .some) p (cursorAt d p i)
 
+-- the items of a bit instruction by its sides and period, and those of a move
+abbrev pub gatherShape : BitPlan → Shape
+gatherShape b = takenShape (b .result) 1 (wovenAt (sidesOf (b .first) (b .second)) (periodOf (b .rule) (b .runs)))
+
+abbrev pub moveShape : MovePlan → Shape
+moveShape v = takenShape (v .result) 8 (byteOf (v .source) (v .length) (v .fill))
+
 -- a period is of two parts, and not too long
 pub record Paced (p : Period) : Type 0 where
   pub part-r : p .head ≤ p .bits
@@ -225,6 +240,13 @@ pub record Chunk (p : Period) (t : ℕ) : Type 0 where
 abbrev pub spreadOf : ℕ → ℕ → ℕ → ℕ → ℕ → ℕ → ℕ
 spreadOf x step n gap t zero = 0
 spreadOf x step n gap t (suc k) = spreadOf x step n gap t k * 2 ^ gap + get ((t - suc k) * step) n x
+
+-- ones where the pieces of R go in t periods, and where those of S go
+abbrev pub frontOf : Period → ℕ → ℕ
+frontOf p t = spreadOf (2 ^ p .head - 1) 0 (p .head) (p .bits) t t
+
+abbrev pub backOf : Period → ℕ → ℕ
+backOf p t = spreadOf (2 ^ (p .bits - p .head) - 1) 0 (p .bits - p .head) (p .bits) t t
 
 -- S has a part in the periods
 abbrev pub bothIn : Bool → Period → Bool

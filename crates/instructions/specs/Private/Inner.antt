@@ -15,9 +15,9 @@ use Rattle.instructions.specs.declared.table.Found.the-variants.{At, Not
 use Rattle.instructions.specs.Table.{Line, table, codeOf, kindOf, find}
 use Rattle.instructions.specs.Branches.{takenOf, targetOf}
 use Rattle.fields.specs.declared.extents.Unit.the-variants.{Byte, Word}
-use Rattle.instructions.specs.Layout.{itemAt, ofKind}
+use Rattle.instructions.specs.Layout.{addressedItem, ofKind}
 use Rattle.instructions.specs.Fetch.{unfetchedAt}
-use Rattle.instructions.specs.Verdict.{check, atExit, fieldChecks, first}
+use Rattle.instructions.specs.Verdict.{check, atExit, fieldChecks, firstNumber}
 
 -- N, and no x has the code k
 abbrev pub Past : {A : Type 0} → (A → ℕ) → Type 0 → List A → ℕ → Type 0
@@ -48,15 +48,15 @@ hasItems Kind.Move = true
 
 -- 8 to 11 of the list, of fields
 unfoldable pub refusalOf : Fields → ℕ → ℕ
-refusalOf f n = first fieldChecks (record { p = 0; word = 0; row = Nothing; fields = f; bytes = n })
+refusalOf f n = firstNumber fieldChecks (record { p = 0; word = 0; row = Nothing; fields = f; bytes = n })
 
 -- 1 and 8 to 11 of the list, of a word that has this row
 unfoldable pub listedOf : Row → ℕ → Operands → ℕ → ℕ
-listedOf r w o n = first (check 1 atExit ∷ fieldChecks) (record { p = 0; word = w; row = At r; fields = ofKind (kindOf r) w o; bytes = n })
+listedOf r w o n = firstNumber (check 1 atExit ∷ fieldChecks) (record { p = 0; word = w; row = At r; fields = ofKind (kindOf r) w o; bytes = n })
 
 -- 8 and 10 do not refuse a field
-abbrev pub reachedBy : Field → ℕ → Bool
-reachedBy f n = aligned f && inside f n
+abbrev pub alignedInside : Field → ℕ → Bool
+alignedInside f n = aligned f && inside f n
 
 -- 8 does not refuse a branch
 abbrev pub arrives : ℕ → Operands → Bool
@@ -67,10 +67,10 @@ unfoldable pub oneStepOf : Kind → ℕ → Operands → ℕ → Bool
 oneStepOf Kind.Exit w o n = false
 oneStepOf Kind.Register w o n = true
 oneStepOf Kind.Branch w o n = arrives w o
-oneStepOf Kind.LoadByte w o n = reachedBy (itemAt Byte o) n
-oneStepOf Kind.StoreByte w o n = reachedBy (itemAt Byte o) n
-oneStepOf Kind.LoadWord w o n = reachedBy (itemAt Word o) n
-oneStepOf Kind.StoreWord w o n = reachedBy (itemAt Word o) n
+oneStepOf Kind.LoadByte w o n = alignedInside (addressedItem Byte o) n
+oneStepOf Kind.StoreByte w o n = alignedInside (addressedItem Byte o) n
+oneStepOf Kind.LoadWord w o n = alignedInside (addressedItem Word o) n
+oneStepOf Kind.StoreWord w o n = alignedInside (addressedItem Word o) n
 oneStepOf Kind.Compress w o n = false
 oneStepOf Kind.Merge w o n = false
 oneStepOf Kind.Mask w o n = false
