@@ -45,8 +45,8 @@ impl Field {
     {
         let bits = items.shifted();
         Field {
-            base: base,
-            bits: bits,
+            base,
+            bits,
             unit: Unit::Bit,
         }
     }
@@ -56,8 +56,8 @@ impl Field {
     {
         let bits = items.shifted();
         Field {
-            base: base,
-            bits: bits,
+            base,
+            bits,
             unit: Unit::Byte,
         }
     }
@@ -67,8 +67,8 @@ impl Field {
     {
         let bits = items.shifted();
         Field {
-            base: base,
-            bits: bits,
+            base,
+            bits,
             unit: Unit::HalfWord,
         }
     }
@@ -78,8 +78,8 @@ impl Field {
     {
         let bits = items.shifted();
         Field {
-            base: base,
-            bits: bits,
+            base,
+            bits,
             unit: Unit::Word,
         }
     }

@@ -4,7 +4,7 @@ ghost use mathlib.Core.Path.{_≡_};
 ghost use Rattle.fields.specs.Units.{inBits, formed};
 
 // Addresses and counts have 48 bits.
-const WRAP: u64 = 0x1_0000_0000_0000;
+pub const WRAP: u64 = 0x1_0000_0000_0000;
 
 // The first bit address of memory, the left bit of the first lent byte. Those below it are the registers'.
 pub const ORIGIN: u64 = 0x4000;

@@ -32,7 +32,7 @@ pub right-byte : (x : ℕ) → x % 256 ≡ field 64 56 8 x
 right-byte x = omega arith
 
 -- a byte is all that the register holds
-cleared : (v : ℕ) → store 64 56 8 v 0 ≡ v
+pub cleared : (v : ℕ) → store 64 56 8 v 0 ≡ v
 cleared v = omega arith
 
 pub loaded : (o : Operands) (m : List ℕ) {r : Outcome} {a : BitAddress} {t v : ℕ} → a ≡ addressIn unit.Byte o → v ≡ fieldAt m (a .0) 8 → r ≡ toRegister t (plain v) → r ≡ loadByteOf t o (length m) (num m)

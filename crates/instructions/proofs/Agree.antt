@@ -8,7 +8,7 @@ use native.Mathlib.Nat.{mod-lt, suc-mul, mul-le-mul-right}
 use native.Mathlib.Omega.{arith}
 use lib.Bits.{bitOr}
 use lib.Pow.{pow-pos}
-use Rattle.fields.specs.Field.{field, store, Apart, sideBySide}
+use Rattle.fields.specs.Field.{field, store, Apart}
 use Rattle.fields.proofs.Places.{field-lt}
 use Rattle.fields.proofs.Turns.{inTurn, Same, Looks, look-apart, look-same, at-once, untouched, done, to-come}
 use Rattle.instructions.specs.Items.{Place, bits, fixed, Shape, valueAt, storedAt, madeAt, itemAt, flagsAt, MemoryAndFlags, worked, turn, turns, flagsTogether, whole}

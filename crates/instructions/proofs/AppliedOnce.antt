@@ -7,7 +7,8 @@ use Rattle.fields.specs.Bytes.{Bytes}
 use Rattle.fields.proofs.Lists.{num-inj}
 use Rattle.instructions.specs.declared.effects.Effect.{Effect}
 use Rattle.instructions.specs.declared.effects.Effect.the-variants.{Nothing, Register, HalfRegister, Byte, Word}
-use Rattle.instructions.specs.Effects.{registersAfter, Applied}
+use Rattle.instructions.specs.Effects.{registersAfter}
+use Rattle.instructions.specs.Private.Accepted.{Applied}
 
 pub applied-once : (e : Effect) (m rs p q ps qs : List ℕ) → Bytes p → Bytes q → Applied e m rs p ps → Applied e m rs q qs → (p ≡ q) × (ps ≡ qs)
 applied-once e m rs p q ps qs hp hq k l =

@@ -1,30 +1,29 @@
 -- What a code says without the table: how many items a word has, by the lengths, and what its plan is.
-use mathlib.Core.Path.{_≡_, refl, sym, ap, subst, _∙_}
-use mathlib.Core.Bool.{Bool, true, false, not, _&&_, _||_}
+use mathlib.Core.Path.{_≡_, refl, sym, ap, _∙_}
+use mathlib.Core.Bool.{Bool, true, false, not, _||_}
 use Prim.Native.Nat.{ℕ, _/_, _%_, _^_, _<_}
 use native.Mathlib.Nat.{mod-eq-of-lt, mod-lt}
 use native.Mathlib.Omega.{arith}
 use lib.Bits.{bitAnd, and-shr, and-mod, and-mask}
 use lib.Dec.{T, eqb, eqb→eq}
 use lib.Pow.{pow-pos}
-use borrow.Author.Tests.{eq-eqb, ne-eqb, eqb-true, eqb-false, not-true}
+use borrow.Author.Tests.{eq-eqb, ne-eqb, eqb-true}
 use Rattle.fields.specs.Field.{field}
 use Rattle.instructions.specs.declared.operands.Operands.{Operands}
 use Rattle.instructions.specs.declared.items.VectorPlan.{VectorPlan}
-use Rattle.instructions.specs.declared.table.Found.{Found}
 use Rattle.instructions.specs.Meanings.{gathers, eachOfAB, eachOfA, halfOfA, moves, Meaning, unlisted, exits, acts, branches, works, goesByItems}
-use Rattle.instructions.specs.Table.{Line, table, rowOf, namedOf, zeroBits, meaningOf}
-use Rattle.instructions.specs.Operands.{codeIn, foundIn, rowSays, meaningIn, lengthIn}
+use Rattle.instructions.specs.Table.{Line, table, rowOf, zeroBits, meaningOf}
+use Rattle.instructions.specs.Operands.{codeIn, meaningIn, lengthIn}
 use Rattle.instructions.specs.Words.{notZero, missing, missingAt}
 use Rattle.instructions.specs.Verdict.{checks, caseOf, verdictOf}
 use Rattle.instructions.specs.Plan.{Plan, vectors, itemsOf}
 use Rattle.instructions.specs.Planned.{vectorIn, planIn}
 use Rattle.instructions.specs.Instruction.{byItems, planOf, countOf}
 use Rattle.instructions.specs.Private.Inner.{Past}
-use Rattle.instructions.specs.Private.Loops.{lanesFor, makesBy, widthBy, singleBy, makesAt, widthAt, singleAt, Suited}
+use Rattle.instructions.specs.Private.Loops.{lanesFor, makesAt, widthAt, singleAt, Suited}
 use Rattle.instructions.proofs.Conjunctions.{and-first, and-rest}
 use Rattle.instructions.proofs.VerdictTests.{never, both-false}
-use Rattle.instructions.proofs.VerdictOrder.{Passes, end, next, verdict-none}
+use Rattle.instructions.proofs.VerdictOrder.{Passes, next, verdict-none}
 use Rattle.instructions.proofs.TablePlaces.{every, meansIn, Looked, has, none, looked, those}
 use Rattle.instructions.proofs.ByCode.{not-of}
 use Rattle.instructions.proofs.TableRules.{ofTwo, ofOne, secondRule}

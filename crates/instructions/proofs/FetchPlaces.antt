@@ -18,7 +18,8 @@ use Rattle.fields.proofs.FieldMeaning.{Multiple, aligned-multiple, inside-every
 use Rattle.instructions.specs.declared.table.Row.{Row}
 use Rattle.instructions.specs.declared.table.Found.{Found}
 use Rattle.instructions.specs.Operands.{codeIn, foundIn, rowSays}
-use Rattle.instructions.specs.Table.{codeOf, formatOf, long, found}
+use Rattle.instructions.specs.Table.{formatOf, long, found}
+use Rattle.instructions.specs.Private.Inner.{codeOf}
 use Rattle.instructions.specs.Fetch.{longIn, halfWordsAt, there, twoHalvesAt, fetchOf, unfetchedAt}
 use Rattle.instructions.proofs.TablePlaces.{every}
 use Rattle.instructions.proofs.TableRules.{row-passes, found-code}

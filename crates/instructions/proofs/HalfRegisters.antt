@@ -1,14 +1,14 @@
 -- A half-word register is written by itself: it then holds what was written, and every other half word what it held, the other half of its register too.
 -- Two half words of one register are the fields of 32 bits at 0 and at 32, which lie apart.
-use mathlib.Core.Path.{_≡_, refl, sym, ap, _∙_}
+use mathlib.Core.Path.{_≡_, refl, sym, ap}
 use mathlib.Core.Bool.{Bool, true, false}
-use mathlib.Core.Logic.{_⊎_, inl, inr}
+use mathlib.Core.Logic.{inl, inr}
 use mathlib.Core.List.{List}
-use Prim.Native.Nat.{ℕ, _*_, _/_, _%_, _+_, _^_, _≤_, _<_}
+use Prim.Native.Nat.{ℕ, _/_, _%_, _^_, _<_}
 use native.Mathlib.Omega.{arith}
 use borrow.Author.Tests.{eqb-true, eqb-false}
 use lib.Dec.{eqb}
-use lib.ListN.{length, getD, set}
+use lib.ListN.{length, getD}
 use lib.Seq.{getD-set-same, getD-set-other}
 use Rattle.fields.specs.Field.{field, store, Apart}
 use Rattle.fields.proofs.Places.{field-store, field-other}

@@ -1,5 +1,5 @@
 -- A coefficient in a local of a signed type is the number itself.
-use mathlib.Core.Path.{_≡_, ap, _∙_}
+use mathlib.Core.Path.{_≡_}
 use Prim.Native.Nat.{ℕ}
 use native.Mathlib.Omega.{arith}
 use mir.Syntax.{w64}

@@ -1,5 +1,5 @@
 -- The fields that the code makes of its callees' results are those of the definitions. Each law is over plain variables, so that no proof looks into a record.
-use mathlib.Core.Path.{_≡_, refl, sym, ap, _∙_}
+use mathlib.Core.Path.{_≡_, refl, ap, _∙_}
 use mathlib.Core.Bool.{Bool, false, _||_}
 use Prim.Native.Nat.{ℕ, min}
 use Rattle.fields.specs.declared.units.BitAddress.{BitAddress}
@@ -17,7 +17,7 @@ use Rattle.instructions.specs.Meanings.{Meaning, unlisted, kindFor}
 use Rattle.instructions.specs.Table.{kindOf}
 use Rattle.instructions.specs.Operands.{codeIn, foundIn, rowSays, meaningIn, gBit, lengthIn, baseIn, indexed}
 use Rattle.instructions.specs.Layout.{fieldsAt, sourceOf, shortOf, controlOf, vectorOf, runsOf, compressOf, wovenOf, moveOf, noFields, ofKind, fieldsOf}
-use Rattle.instructions.proofs.TableRules.{Its, its, its-none}
+use Rattle.instructions.proofs.TableRules.{its, its-none}
 
 -- an address formed of a base and a shifted count
 pub formed-address : (a : BitAddress) (d k n : ℕ) → a .0 ≡ formed d k → k ≡ n → a ≡ record { 0 = formed d n }

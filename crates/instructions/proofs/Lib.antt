@@ -1,4 +1,5 @@
 -- The laws that belong to no one function, by module.
+pub mod Theorems
 pub mod Conjunctions
 pub mod VerdictTests
 pub mod TablePlaces
@@ -42,3 +43,5 @@ pub mod Unions
 pub mod Steps
 pub mod FlagsKept
 pub mod Register00
+pub mod Codes
+pub mod CodesHold

@@ -1,11 +1,10 @@
 -- A word whose right half is zero names number 00 there, four times: what the three other registers supply is then all.
 use mathlib.Core.Path.{_≡_, sym}
 use mathlib.Core.List.{List}
-use Prim.Native.Nat.{ℕ, _/_, _%_, _^_}
+use Prim.Native.Nat.{ℕ, _%_, _^_}
 use native.Mathlib.Omega.{arith}
 use borrow.Author.Tests.{eq-eqb}
 use Rattle.fields.specs.Field.{field}
-use Rattle.instructions.specs.declared.operands.Operands.{Operands}
 use Rattle.instructions.specs.Operands.{supplied, gathered}
 
 none-named : (registers : List ℕ) (t : ℕ) → t ≡ 0 → supplied registers t ≡ 0x8000_0000_0000_0000

@@ -1,7 +1,7 @@
 -- What every meaning of the table has: it raises no flags but the three, its effect may be applied where its address was accepted, and control goes to the word that
 -- follows or to a taken target.
-use mathlib.Core.Path.{_≡_, refl, sym, ap, _∙_}
-use mathlib.Core.Bool.{Bool, true, false, cond}
+use mathlib.Core.Path.{refl}
+use mathlib.Core.Bool.{true, false}
 use mathlib.Core.List.{List, [], _∷_}
 use Prim.Native.Nat.{ℕ}
 use lib.Dec.{eqb}
@@ -10,14 +10,12 @@ use Rattle.fields.specs.Bytes.{num}
 use Rattle.numbers.specs.declared.division.Rounding.the-variants.{Zero, Down, Up}
 use Rattle.numbers.proofs.Raised.{Among, either, whole-flags, contract-flags}
 use Rattle.instructions.specs.declared.operands.Operands.{Operands}
-use Rattle.instructions.specs.declared.effects.Outcome.{Outcome}
-use Rattle.instructions.specs.Meanings.{Act, toT, toHalfT, loadsByte, loadsWord, storesByte, storesWord, gathers, eachOfAB, eachOfA, halfOfA, moves, Meaning, unlisted, exits, acts, branches, works}
-use Rattle.instructions.specs.Table.{Line, table, lookUp, meaningOf}
+use Rattle.instructions.specs.Meanings.{toT, toHalfT, loadsByte, loadsWord, storesByte, storesWord, gathers, eachOfAB, eachOfA, halfOfA, moves, Meaning, unlisted, exits, acts, branches, works}
+use Rattle.instructions.specs.Table.{Line, table, meaningOf}
 use Rattle.instructions.specs.Operands.{codeIn, meaningIn}
-use Rattle.instructions.specs.Effects.{Reaches}
 use Rattle.instructions.specs.Branches.{branchOf}
 use Rattle.instructions.specs.Scalars.{outcomeIn, scalarOf}
-use Rattle.instructions.specs.Private.Accepted.{AddressThereBy, AddressThere}
+use Rattle.instructions.specs.Private.Accepted.{AddressThereBy, AddressThere, Reaches}
 use Rattle.instructions.proofs.TablePlaces.{meansIn}
 
 -- ---- a law of every line is one of the meaning that is looked up

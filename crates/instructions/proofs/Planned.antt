@@ -1,18 +1,16 @@
 -- A vector's plan as plain numbers.
 use mathlib.Core.Path.{_≡_, refl, sym, ap, subst, _∙_}
 use mathlib.Core.List.{List}
-use mathlib.Core.Bool.{Bool, true, false, _||_}
+use mathlib.Core.Bool.{Bool, true, false}
 use Prim.Native.Nat.{ℕ, _/_}
 use Rattle.instructions.specs.declared.operands.Operands.{Operands}
 use Rattle.instructions.specs.declared.items.VectorPlan.{VectorPlan}
 use Rattle.instructions.specs.declared.lanes.Lane.{Lane}
 use Rattle.instructions.specs.declared.lanes.Gating.{Gating}
 use Rattle.instructions.specs.declared.lanes.Lanes.{Lanes}
-use Rattle.instructions.specs.Operands.{gBit}
 use Rattle.instructions.specs.Planned.{vectorIn}
-use Rattle.instructions.specs.Private.Loops.{laneOf, gatingOf, lanesFor, laned, lanesOf, InReach, LanesReach, widthBy, singleBy, makesAt, widthAt, singleAt, Suited}
+use Rattle.instructions.specs.Private.Loops.{laneOf, gatingOf, lanesFor, laned, lanesOf, InReach, LanesReach, widthBy, singleBy, makesAt, widthAt, singleAt, Suited, Turned}
 use Rattle.instructions.specs.Table.{table, meaningOf}
-use Rattle.instructions.specs.Items.{Turned}
 use Rattle.instructions.proofs.TablePlaces.{meansIn}
 
 abbrev pub lanesBy : Lane → Lane → Gating → ℕ → Lanes

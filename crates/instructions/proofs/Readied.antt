@@ -1,11 +1,11 @@
 -- An instruction that passes its checks may be worked: what the verdict says of the fields of a vector, bit or move instruction is what its loops ask of its plan.
 -- Each field of the layout is the plan's place and the plan's items, so the law is one for each kind of field, and one for each family of instructions.
 -- Assumes nothing.
-use mathlib.Core.Path.{_≡_, refl, sym, ap, subst, _∙_}
+use mathlib.Core.Path.{_≡_, refl, sym, subst, _∙_}
 use mathlib.Core.Bool.{Bool, true, false, cond, not, _&&_, _||_}
 use mathlib.Core.Logic.{_⊎_, inl, inr}
 use mathlib.Core.List.{List}
-use Prim.Native.Nat.{ℕ, zero, suc, _+_, _-_, _*_, _/_, _%_, _^_, _≤_, _<_, min}
+use Prim.Native.Nat.{ℕ, _+_, _-_, _*_, _/_, _%_, _^_, _≤_, _<_, min}
 use native.Mathlib.Nat.{mod-lt}
 use native.Mathlib.Omega.{arith}
 use lib.Dec.{eqb, leb, lit<, lit≤}
@@ -18,7 +18,6 @@ use Rattle.fields.specs.declared.extents.Unit as U
 use Rattle.fields.specs.declared.extents.Unit.the-variants.{Bit, Byte, HalfWord, Word}
 use Rattle.fields.specs.declared.extents.Field as F
 use Rattle.fields.specs.declared.gathers.Runs.{Runs}
-use Rattle.fields.specs.Bytes.{size}
 use Rattle.fields.specs.Field.{field, Apart}
 use Rattle.fields.specs.Memory.{rightLength, AtByte}
 use Rattle.fields.specs.Extents as E
@@ -29,22 +28,21 @@ use Rattle.fields.proofs.Furthest.{at-most}
 use Rattle.fields.proofs.GatherMeaning.{Lengths, extents-low, compress-few, merge-few}
 use Rattle.instructions.specs.declared.operands.Operands.{Operands}
 use Rattle.instructions.specs.declared.layout.Fields.{Fields}
-use Rattle.instructions.specs.declared.items.Source.{Source}
-use Rattle.instructions.specs.declared.items.Source.the-variants.{Field, Value}
+use Rattle.instructions.specs.declared.items.Source.the-variants.{Field}
 use Rattle.instructions.specs.declared.items.Control.the-variants.{Every, Where}
 use Rattle.instructions.specs.declared.items.Rule.{Rule}
 use Rattle.instructions.specs.declared.items.SecondBits.the-variants.{From, Zeros}
 use Rattle.instructions.specs.Meanings.{toT, toHalfT, loadsByte, loadsWord, storesByte, storesWord, Work, gathers, eachOfAB, eachOfA, halfOfA, moves, Meaning, unlisted, exits, acts, branches, works, goesByItems, kindFor}
-use Rattle.instructions.specs.Operands.{meaningIn, gBit, R, S, T, lengthIn, baseIn, indexed, addressIn}
-use Rattle.instructions.specs.Layout.{addressedItem, loadAt, storeAt, sourceOf, controlOf, resultOf, vectorOf, runsOf, zerosOf, compressOf, mergeOf, maskOf, moveOf, ofKind, fieldsOf}
+use Rattle.instructions.specs.Operands.{meaningIn, gBit, lengthIn, baseIn, indexed, addressIn}
+use Rattle.instructions.specs.Layout.{sourceOf, controlOf, resultOf, vectorOf, runsOf, zerosOf, compressOf, mergeOf, maskOf, moveOf, ofKind}
 use Rattle.instructions.specs.Verdict.{clash, verdictOf}
-use Rattle.instructions.specs.Plan.{takenBy, bitItems, Plan, vectors, bitRuns, byteMove, itemsOf}
-use Rattle.instructions.specs.Planned.{placeOf, sourceIn, controlIn, vectorIn, secondIn, bitsIn, moveIn, planBy, planIn}
+use Rattle.instructions.specs.Plan.{itemsOf}
+use Rattle.instructions.specs.Planned.{placeOf, sourceIn, vectorIn, bitsIn, moveIn, planBy, planIn}
 use Rattle.instructions.specs.Private.Accepted.{Away, WordsPass, SourcePasses, ControlPasses, VectorPasses, SecondPasses, BitsPass, MovePasses, Accepted, Ready, AddressThereBy, AddressThere}
 use Rattle.instructions.specs.Instruction.{byItems, planOf}
 use Rattle.instructions.proofs.VerdictTests.{never, both-true}
 use Rattle.instructions.proofs.LayoutMade.{fields-mean}
-use Rattle.instructions.proofs.VerdictMeaning.{Placed, placed, clear, Passed, verdict-passed}
+use Rattle.instructions.proofs.VerdictMeaning.{placed, clear, Passed, verdict-passed}
 
 -- a length has 16 bits, a base 48
 length-few : (d : ℕ) → lengthIn d ≤ 65535

@@ -22,6 +22,7 @@ use Rattle.instructions.specs.Effects.{registersAfter}
 use Rattle.instructions.specs.Branches.{branchOf}
 use Rattle.instructions.specs.Scalars.{outcomeIn, scalarOf}
 use Rattle.instructions.specs.Instruction.{Done, leaving, actsOf}
+use Rattle.instructions.proofs.VerdictTests.{both-false}
 use Rattle.instructions.proofs.VerdictOrder.{Passes, next, verdict-none}
 use Rattle.instructions.proofs.TablePlaces.{every, Looked, has, none, looked}
 use Rattle.instructions.proofs.TableRules.{resultNamed, resultRule}
@@ -75,18 +76,14 @@ half-let-pass m zero e h z = false≢true (sym (rw e at h))
 half-let-pass m (suc zero) e h z = false≢true (sym (rw e at h))
 half-let-pass m (suc (suc t)) e h z = omega arith
 
-or-both : (a b : Bool) → (a || b) ≡ false → (a ≡ false) × (b ≡ false)
-or-both true b h = absurd (false≢true (sym h))
-or-both false b h = (refl, h)
-
 -- the fourth of the eight, and the last
-both-false : (a b c d e f g h : Bool) → (a || b || c || d || e || f || g || h) ≡ false → (d ≡ false) × (h ≡ false)
-both-false a b c d e f g h q =
-    let q₇ = or-both (a || b || c || d || e || f || g) h q in
-    let q₆ = or-both (a || b || c || d || e || f) g (q₇ .0) in
-    let q₅ = or-both (a || b || c || d || e) f (q₆ .0) in
-    let q₄ = or-both (a || b || c || d) e (q₅ .0) in
-    (or-both (a || b || c) d (q₄ .0) .1, q₇ .1)
+fourth-and-last : (a b c d e f g h : Bool) → (a || b || c || d || e || f || g || h) ≡ false → (d ≡ false) × (h ≡ false)
+fourth-and-last a b c d e f g h q =
+    let q₇ = both-false (a || b || c || d || e || f || g) h q in
+    let q₆ = both-false (a || b || c || d || e || f) g (q₇ .0) in
+    let q₅ = both-false (a || b || c || d || e) f (q₆ .0) in
+    let q₄ = both-false (a || b || c || d) e (q₅ .0) in
+    (both-false (a || b || c) d (q₄ .0) .1, q₇ .1)
 
 module _ (p w : ℕ) (o : Operands) (bytes : ℕ) (passes : verdictOf p w o bytes ≡ 0) where
   let-by : rowSays false (λ r. missing (namedOf r) w) (foundIn w) ≡ false
@@ -116,7 +113,7 @@ module _ (p w : ℕ) (o : Operands) (bytes : ℕ) (passes : verdictOf p w o byte
       go : Looked (codeIn w) → Spares (outcomeIn (meaningIn w) w o bytes x .effect)
       go (has l c q h e) =
           let at = missingAt (l .named) w in
-          let both = both-false (at 0) (at 8) (at 16) (at 24) (at 32) (at 40) (at 48) (at 56) (sym (ap (rowSays false (λ r. missing (namedOf r) w)) h) ∙ let-by) in
+          let both = fourth-and-last (at 0) (at 8) (at 16) (at 24) (at 32) (at 40) (at 48) (at 56) (sym (ap (rowSays false (λ r. missing (namedOf r) w)) h) ∙ let-by) in
           rw e (spares (l .means) (l .named) x (q resultRule tt) (both .0) (both .1))
       go (none h e) = rw e tt
 

@@ -1,5 +1,5 @@
 -- What the step of an instruction that no check refuses asks of the layers' functions, and what it comes to. Assumes nothing.
-use mathlib.Core.Path.{_≡_, refl, sym, ap, subst, _∙_}
+use mathlib.Core.Path.{_≡_, refl, sym, subst}
 use mathlib.Core.Bool.{true}
 use mathlib.Core.List.{List}
 use Prim.Native.Nat.{ℕ, _+_, _≤_, _<_}
@@ -12,13 +12,13 @@ use Rattle.instructions.specs.declared.operands.Operands.{Operands}
 use Rattle.instructions.specs.declared.effects.Outcome.{Outcome}
 use Rattle.instructions.specs.Verdict.{verdictOf}
 use Rattle.instructions.specs.Fetch.{lengthOf}
-use Rattle.instructions.specs.Effects.{Reaches, Applied, nextP}
+use Rattle.instructions.specs.Effects.{nextP}
 use Rattle.instructions.specs.Scalars.{scalarOf}
-use Rattle.instructions.specs.Items.{worked, Turned}
+use Rattle.instructions.specs.Items.{worked}
 use Rattle.instructions.specs.Plan.{Plan, vectors, shapeOf, itemsOf}
-use Rattle.instructions.specs.Private.Loops.{lanesFor, widthAt, makesAt, Suited}
+use Rattle.instructions.specs.Private.Loops.{lanesFor, widthAt, makesAt, Suited, Turned}
 use Rattle.instructions.specs.declared.items.VectorPlan.{VectorPlan}
-use Rattle.instructions.specs.Private.Accepted.{Ready, AddressThere}
+use Rattle.instructions.specs.Private.Accepted.{Ready, AddressThere, Applied, Reaches}
 use Rattle.instructions.specs.Instruction.{byItems, planOf, countOf, worksOf, leaving, actsOf}
 use Rattle.instructions.proofs.Outcomes.{reached-reaches}
 use Rattle.instructions.proofs.Readied.{ready}

@@ -1,12 +1,11 @@
 -- What the layer above may use of an instruction, whatever it does. Assumes nothing.
-use mathlib.Core.Path.{_≡_, refl, sym, ap, subst, _∙_}
+use mathlib.Core.Path.{_≡_, refl, subst, _∙_}
 use mathlib.Core.Bool.{Bool, true, false, cond, _&&_}
 use mathlib.Core.List.{List, [], _∷_}
 use mathlib.Core.Logic.{_⊎_, inl, inr}
 use Prim.Native.Nat.{ℕ, zero, suc, _+_, _*_, _%_, _^_, _≤_, _<_}
 use native.Mathlib.Nat.{mod-lt, mod-eq-of-lt}
 use native.Mathlib.Omega.{arith}
-use lib.Bits.{bitOr}
 use lib.Dec.{leb, eqb, lit<, lit≤}
 use lib.ListN.{length}
 use lib.Pow.{pow-pos}
@@ -16,7 +15,6 @@ use Rattle.numbers.proofs.Raised.{Among, either}
 use Rattle.instructions.specs.declared.operands.Operands.{Operands}
 use Rattle.instructions.specs.declared.layout.Fields.{Fields}
 use Rattle.instructions.specs.declared.effects.Outcome.{Outcome}
-use Rattle.instructions.specs.declared.effects.Next.{Next}
 use Rattle.instructions.specs.declared.effects.Next.the-variants.{Following, Target}
 use Rattle.instructions.specs.Meanings.{toT, toHalfT, loadsByte, loadsWord, storesByte, storesWord, gathers, eachOfAB, eachOfA, halfOfA, moves, Meaning, unlisted, exits, acts, branches, works, kindFor}
 use Rattle.instructions.specs.Operands.{codeIn, meaningIn}
@@ -31,7 +29,7 @@ use Rattle.instructions.specs.Plan.{shapeOf}
 use Rattle.instructions.specs.Planned.{planIn}
 use Rattle.instructions.specs.Instruction.{byItems, planOf, countOf, worksOf, wholeOf, actsOf}
 use Rattle.instructions.proofs.FetchPlaces.{there-ends, long-unfetched, short-unfetched}
-use Rattle.instructions.proofs.VerdictOrder.{Passes, end, next, verdict-none}
+use Rattle.instructions.proofs.VerdictOrder.{Passes, next, verdict-none}
 use Rattle.instructions.proofs.VerdictMeaning.{Passed, verdict-passed}
 use Rattle.instructions.proofs.VerdictTests.{both-true}
 use Rattle.instructions.proofs.AppliedOnce.{registers-as-long}

@@ -1,6 +1,6 @@
 -- How a code is looked up: a code that is none of the first ones is looked up among the others. So what the cases of the look-up show is the row of the code; and of
 -- any code it is known which line has it, and that it passes every test that the whole table passes, or that none has it.
-use mathlib.Core.Path.{_≡_, refl, sym, ap, subst, _∙_}
+use mathlib.Core.Path.{_≡_, refl, sym, ap, _∙_}
 use mathlib.Core.Bool.{Bool, true, false, not, cond, _&&_}
 use mathlib.Core.List.{List, [], _∷_, _++_, map}
 use Prim.Native.Nat.{ℕ, zero, suc, _≤_, _<_}

@@ -13,8 +13,8 @@ use Rattle.instructions.specs.declared.table.Kind.{Kind}
 use Rattle.instructions.specs.declared.table.Row.{Row}
 use Rattle.instructions.specs.declared.table.Found.{Found}
 use Rattle.instructions.specs.Meanings.{goesByItems, kindFor, toT, toHalfT, loadsByte, loadsWord, storesByte, storesWord, gathers, eachOfAB, eachOfA, halfOfA, moves, Meaning, unlisted, exits, acts, branches, works}
-use Rattle.instructions.specs.Table.{atS, atX, atY, G, Line, table, rowOf, codeOf, kindOf, long, vectorFormat, zeroBits, lookUp, found, meaningOf}
-use Rattle.instructions.specs.Private.Inner.{hasItems}
+use Rattle.instructions.specs.Table.{atS, atX, atY, G, Line, table, rowOf, kindOf, long, vectorFormat, zeroBits, lookUp, found, meaningOf, hasItems}
+use Rattle.instructions.specs.Private.Inner.{codeOf}
 use Rattle.instructions.proofs.Conjunctions.{and-first, and-rest}
 use Rattle.instructions.proofs.TablePlaces.{every, Looked, has, none, looked}
 
@@ -132,9 +132,9 @@ rules-hold = tt
 
 -- ---- each line is the one that its code is looked up to: a row has one meaning, and a meaning one row
 
-pub data In (l : Line) : List Line → Type 0 where
-  here : {ls : List Line} → In l (l ∷ ls)
-  there : {x : Line} {ls : List Line} → In l ls → In l (x ∷ ls)
+pub data In {A : Type 0} (l : A) : List A → Type 0 where
+  here : {ls : List A} → In l (l ∷ ls)
+  there : {x : A} {ls : List A} → In l ls → In l (x ∷ ls)
 
 above : (k : ℕ) {l : Line} {ls : List Line} → In l ls → T (ascending k ls) → k < l .code
 above k {l} here t = ltb→lt k (l .code) (and-first (ltb k (l .code)) _ t)

@@ -17,7 +17,7 @@ use Rattle.fields.specs.Memory.{Kept}
 use Rattle.instructions.specs.declared.lanes.Lane.{Lane}
 use Rattle.instructions.specs.declared.lanes.Gating.{Gating}
 use Rattle.instructions.specs.declared.items.Made.{Made}
-use Rattle.instructions.specs.Items.{Place, bits, Shape, valueAt, storedAt, madeAt, itemAt, flagsAt, MemoryAndFlags, worked, turn, turns}
+use Rattle.instructions.specs.Items.{Place, Shape, valueAt, storedAt, madeAt, itemAt, flagsAt, MemoryAndFlags, worked, turn, turns}
 use Rattle.instructions.specs.Plan.{takenShape, sourceItem, controlBit, senseOf}
 use Rattle.instructions.specs.Private.Loops.{Settled, Gate, sourceBy, controlBy, laned}
 

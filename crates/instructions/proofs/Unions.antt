@@ -1,9 +1,9 @@
 -- Flags that are united with flags: what is among the three stays among them. Assumes nothing.
-use mathlib.Core.Path.{_≡_, refl, sym, ap, ap₂, _∙_}
-use Prim.Native.Nat.{ℕ, zero, suc, _+_, _*_, _/_, _%_, _^_, _≤_, _<_, max}
+use mathlib.Core.Path.{_≡_, sym, ap, ap₂, _∙_}
+use Prim.Native.Nat.{ℕ, zero, suc, _+_, _*_, _/_, _%_, _^_, _<_, max}
 use native.Mathlib.Nat.{mod-lt, two-pow-succ}
 use native.Mathlib.Omega.{arith}
-use lib.Bits.{bitOr, or-step, or-shr, or-add-and, bitAnd, and-le-r}
+use lib.Bits.{bitOr, or-step, or-add-and, and-le-r}
 use lib.Dec.{lit<}
 use Rattle.numbers.specs.Flags.{allFlags}
 use Rattle.numbers.proofs.Raised.{Among}

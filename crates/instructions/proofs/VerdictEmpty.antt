@@ -2,15 +2,14 @@
 -- nothing is read from: it is empty by itself.
 use mathlib.Core.Path.{_≡_, refl, sym, ap, _∙_}
 use mathlib.Core.Bool.{Bool, true, false, cond, not, _&&_, _||_}
-use Prim.Native.Nat.{ℕ, _*_, _%_, _^_, min, _≤_}
+use Prim.Native.Nat.{ℕ, _%_, min, _≤_}
 use native.Mathlib.Omega.{arith}
-use lib.Dec.{eqb, ltb}
+use lib.Dec.{eqb}
 use borrow.Author.Tests.{eq-eqb, le-ltb}
 use Rattle.numbers.specs.Words.{low48}
 use Rattle.fields.specs.declared.extents.Unit as U
 use Rattle.fields.specs.declared.extents.Unit.the-variants.{Bit, Byte, HalfWord, Word}
 use Rattle.fields.specs.declared.extents.Field.{Field}
-use Rattle.fields.specs.declared.gathers.Runs.{Runs}
 use Rattle.fields.specs.declared.units.BitAddress.{BitAddress}
 use Rattle.fields.specs.Field.{field}
 use Rattle.fields.specs.Extents.{fieldOf, absentField, aligned, inside, shares, inPlace}

@@ -1,25 +1,22 @@
 -- What it means that 8 to 11 let an instruction pass, in bits: its fields begin at multiples of their units, lie in memory, and the result shares no bit with a
 -- source or the control field, or begins at a word source's start. The loops count bits from the start of memory, so the laws are in these offsets.
-use mathlib.Core.Path.{_≡_, refl, sym, ap, _∙_}
-use mathlib.Core.Bool.{Bool, true, false, cond, not, _&&_, _||_}
-use mathlib.Core.Logic.{_⊎_, inl, inr, _↔_}
-use Prim.Native.Nat.{ℕ, _+_, _-_, _*_, _%_, _^_, _≤_, _<_}
-use native.Mathlib.Nat.{mul-le-mul-right}
+use mathlib.Core.Path.{_≡_, refl, ap}
+use mathlib.Core.Bool.{Bool, true, false}
+use mathlib.Core.Logic.{_⊎_, inl, inr}
+use Prim.Native.Nat.{ℕ, _+_, _-_, _*_, _%_, _≤_, _<_}
 use native.Mathlib.Omega.{arith}
-use lib.Dec.{eqb}
-use borrow.Author.Tests.{eqb-true, not-true, not-false}
+use borrow.Author.Tests.{eqb-true, not-false}
 use Rattle.fields.specs.declared.extents.Unit as U
 use Rattle.fields.specs.declared.extents.Unit.the-variants.{Bit, Byte, HalfWord, Word}
 use Rattle.fields.specs.declared.extents.Field.{Field}
-use Rattle.fields.specs.declared.units.BitAddress.{BitAddress}
 use Rattle.fields.specs.Field.{Apart}
-use Rattle.fields.specs.Extents.{widthOf, fieldOf, endOf, aligned, inside, shares, inPlace}
-use Rattle.fields.proofs.FieldMeaning.{Multiple, aligned-multiple, inside-ends, shares-apart, in-place-words, all-bits, length-fits}
+use Rattle.fields.specs.Extents.{widthOf, endOf, aligned, inside, shares}
+use Rattle.fields.proofs.FieldMeaning.{Multiple, aligned-multiple, inside-ends, shares-apart, in-place-words}
 use Rattle.instructions.specs.declared.operands.Operands.{Operands}
 use Rattle.instructions.specs.declared.layout.Fields.{Fields}
 use Rattle.instructions.specs.Layout.{fieldsOf}
 use Rattle.instructions.specs.Verdict.{checks, caseOf, misaligned, outside, clash, overlapping, verdictOf}
-use Rattle.instructions.proofs.VerdictTests.{never, both-true, both-false, and-not}
+use Rattle.instructions.proofs.VerdictTests.{both-false, and-not}
 use Rattle.instructions.proofs.VerdictOrder.{Passes, end, next, verdict-none}
 
 -- where a field begins, in bits from the start of memory

@@ -14,14 +14,14 @@ use Rattle.instructions.specs.declared.table.Found.{Found}
 use Rattle.instructions.specs.declared.words.Refusal.{Refusal}
 use Rattle.instructions.specs.declared.words.Decoded.{Decoded}
 use Rattle.instructions.specs.declared.table.Kind.{Kind}
-use Rattle.instructions.specs.Table.{formatOf, kindOf, long, found}
+use Rattle.instructions.specs.Table.{formatOf, kindOf, long, found, hasItems}
 use Rattle.instructions.specs.Operands.{codeIn, foundIn, rowSays}
 use Rattle.instructions.specs.Words.{refusalNumber, decoded}
 use Rattle.instructions.specs.Fetch.{longIn, there, twoHalvesAt, fetchOf, unfetchedAt}
 use Rattle.instructions.specs.Branches.{takenOf, targetOf}
 use Rattle.instructions.specs.Layout.{noFields, addressedItem, loadAt, storeAt, branchFields, ofKind}
 use Rattle.instructions.specs.Verdict.{misaligned, outside, overlapping, verdictOf}
-use Rattle.instructions.specs.Private.Inner.{hasItems, refusalOf, listedOf, alignedInside, arrives, oneStepOf, cutOff}
+use Rattle.instructions.specs.Private.Inner.{refusalOf, listedOf, alignedInside, arrives, oneStepOf, cutOff}
 use Rattle.instructions.specs.Instruction.{byItems, oneStep, mayWork}
 use Rattle.instructions.proofs.TableRules.{ends, Its, its}
 use Rattle.instructions.proofs.WordsOrder.{listed-passes}

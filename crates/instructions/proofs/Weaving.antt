@@ -11,6 +11,7 @@ use lib.Dec.{ltb}
 use lib.Bits.{or-zero-r}
 use lib.ListN.{length}
 use lib.Pow.{pow-pos}
+use Rattle.numbers.proofs.Integers.{le-or-lt}
 use Rattle.fields.specs.Field.{field, store, Apart}
 use Rattle.fields.specs.Bytes.{num, size}
 use Rattle.fields.specs.Memory.{Kept}
@@ -122,13 +123,6 @@ run-places d p i n j hp hh hk hn hj = go (ltb (i % p .bits) (p .head)) refl hn
 abbrev pub Runs : ℕ → ℕ → ℕ → ℕ → Place → Type 0
 Runs L c i n (bits a) = (a + n ≤ L) × Apart (c + i) n a n
 Runs L c i n (fixed v) = v ≡ 0
-
-le-or-lt : (m n : ℕ) → (m ≤ n) ⊎ (n < m)
-le-or-lt m n = go (ltb n m) refl
-  where
-    go : (t : Bool) → ltb n m ≡ t → (m ≤ n) ⊎ (n < m)
-    go true e = inr (ltb-true n m e)
-    go false e = inl (ltb-false n m e)
 
 run-apart : (L c N a i n : ℕ) → 0 < n → i + n ≤ N → ((j : ℕ) → j < n → (a + j < L) × Apart c N (a + j) 1) → (a + n ≤ L) × Apart (c + i) n a n
 run-apart L c N a i n hn le h =

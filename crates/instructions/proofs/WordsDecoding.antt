@@ -1,6 +1,6 @@
 -- What a word comes to in each case: once its code is looked up, and once it is decoded.
 use mathlib.Core.Path.{_≡_, sym, ap, _∙_}
-use mathlib.Core.Bool.{Bool, true, false}
+use mathlib.Core.Bool.{true, false}
 use Prim.Native.Nat.{ℕ}
 use Rattle.fields.specs.Field.{field}
 use Rattle.instructions.specs.declared.table.Row.{Row}

@@ -1,20 +1,19 @@
 -- A word and its parts say the same: eight bytes side by side, taken out again. So a listed word read and put together is that word,
 -- accepted parts read back as they were, and what is refused is refused alike. No code is looked at.
 use mathlib.Core.Path.{_≡_, refl, sym, ap, _∙_}
-use mathlib.Core.List.{List, [], _∷_}
-use Prim.Native.Nat.{ℕ, _+_, _*_, _/_, _%_, _^_, _<_}
+use mathlib.Core.List.{[], _∷_}
+use Prim.Native.Nat.{ℕ, _+_, _*_, _%_, _^_, _<_}
 use native.Mathlib.Nat.{mod-eq-of-lt}
 use native.Mathlib.Omega.{arith}
 use lib.Pow.{mod-pow-add}
 use Rattle.fields.specs.Field.{field}
 use Rattle.fields.specs.Bytes.{num}
-use Rattle.instructions.specs.declared.table.Row.{Row}
 use Rattle.instructions.specs.declared.words.Parts.{Parts}
 use Rattle.instructions.specs.declared.words.Refusal.{Refusal}
 use Rattle.instructions.specs.declared.words.Decoded.{Decoded}
 use Rattle.instructions.specs.declared.words.Reading.{Reading}
 use Rattle.instructions.specs.declared.words.Assembled.{Assembled}
-use Rattle.instructions.specs.Words.{partsOf, inOrder, joined, decoded, readingAt, reading, assembledAt, assembled}
+use Rattle.instructions.specs.Words.{partsOf, joined, decoded, readingAt, reading, assembledAt, assembled}
 
 -- each part is a byte
 pub record Whole (p : Parts) : Type 0 where

@@ -26,12 +26,12 @@ use Rattle.instructions.specs.declared.items.SecondBits.the-variants.{Fr
 use Rattle.instructions.specs.declared.items.BitPlan.{BitPlan}
 use Rattle.instructions.specs.declared.items.MovePlan.{MovePlan}
 use Rattle.instructions.specs.declared.items.Made.{Made}
-use Rattle.instructions.specs.Items.{Place, bits, fixed, Turned, worked}
-use Rattle.instructions.specs.Plan.{vectorShape, takenShape, bitOf, takenBy, bitItems, Plan, vectors, bitRuns, byteMove, itemsOf}
+use Rattle.instructions.specs.Items.{Place, bits, fixed, worked}
+use Rattle.instructions.specs.Plan.{vectorShape, takenShape, bitOf, takenBy, bitItems, vectors, bitRuns, byteMove, itemsOf}
 use Rattle.instructions.specs.Private.Accepted.{SourcePasses, ControlPasses, SecondPasses, VectorPasses, BitsPass, MovePasses, Ready}
 use Rattle.instructions.specs.Meanings.{gathers, eachOfAB, eachOfA, halfOfA, moves, Meaning, unlisted, exits, acts, branches, works}
 use Rattle.instructions.specs.Table.{meaningOf}
-use Rattle.instructions.specs.Private.Loops.{widthBy, widthAt, laneOf, gatingOf, sourceBy, controlBy, lanesFor, lanesOf, LanesReach, sidesOf, periodOf, cursorAt, wovenAt, ReadyBits, ReadyBytes, TurnedQuietly}
+use Rattle.instructions.specs.Private.Loops.{widthBy, widthAt, laneOf, gatingOf, sourceBy, controlBy, lanesFor, lanesOf, LanesReach, sidesOf, periodOf, cursorAt, wovenAt, ReadyBits, ReadyBytes, TurnedQuietly, Turned}
 use Rattle.instructions.proofs.Turning.{alike}
 use Rattle.instructions.proofs.Passing.{Safe, bit-safe}
 

@@ -1,11 +1,9 @@
 -- What an instruction changes, and memory and registers afterwards. Assumes nothing.
-use mathlib.Core.Path.{_≡_}
 use mathlib.Core.List.{List}
 use Prim.Native.Nat.{ℕ, _-_, _*_, _/_, _%_}
-use lib.ListN.{length, getD, set}
+use lib.ListN.{getD, set}
 use Rattle.fields.specs.Field.{store}
-use Rattle.fields.specs.Bytes.{num, size}
-use Rattle.fields.specs.Memory.{origin, AtByte}
+use Rattle.fields.specs.Memory.{origin}
 use Rattle.fields.specs.Units.{formed}
 use Rattle.instructions.specs.declared.effects.Effect.{Effect}
 use Rattle.instructions.specs.declared.effects.Effect.the-variants.{Nothing, Register, HalfRegister, Byte, Word}
@@ -36,20 +34,6 @@ memoryAfter (Register t v) L x = x
 memoryAfter (HalfRegister t v) L x = x
 memoryAfter (Byte a v) L x = store L (a .0 - origin) 8 v x
 memoryAfter (Word a v) L x = store L (a .0 - origin) 64 v x
-
--- 01, What a call says, 8 and 10: what is stored lies in memory.
-abbrev pub Reaches : Effect → List ℕ → Type 0
-Reaches Nothing m = Unit {0}
-Reaches (Register t v) m = Unit {0}
-Reaches (HalfRegister t v) m = Unit {0}
-Reaches (Byte a v) m = AtByte m (a .0) 8
-Reaches (Word a v) m = AtByte m (a .0) 64
-
--- 01, How much a contract has to say: the lent bytes m and the registers rs become m' and rs'.
-pub record Applied (e : Effect) (m rs m' rs' : List ℕ) : Type 0 where
-  pub as-long : length m' ≡ length m
-  pub memory : num m' ≡ memoryAfter e (size m) (num m)
-  pub registers : rs' ≡ registersAfter e rs
 
 -- 01, Instruction words: an effect with the flags that it raises; the word that follows is next.
 abbrev pub fallsThrough : Effect → ℕ → Outcome

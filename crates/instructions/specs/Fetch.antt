@@ -1,7 +1,6 @@
 -- The instruction word at P, and whether it lies in memory (01, "Steps", and number 4 of "What a call says").
 use mathlib.Core.Bool.{Bool, false, cond, not, _&&_, _||_}
 use Prim.Native.Nat.{ℕ, _*_, _/_, _^_}
-use Rattle.fields.specs.declared.units.BitAddress.{BitAddress}
 use Rattle.fields.specs.declared.extents.Unit.the-variants.{HalfWord}
 use Rattle.fields.specs.declared.extents.Field.{Field}
 use Rattle.fields.specs.Extents.{fieldOf, aligned, inside}

@@ -1,14 +1,10 @@
 -- What the items of an instruction do to memory and flags, one after another and all at once. Memory is one number of L bits, numbered from 0 at the
 -- left. Assumes nothing.
-use mathlib.Core.Path.{_≡_}
 use mathlib.Core.Bool.{Bool, cond}
-use mathlib.Core.List.{List}
 use Prim.Native.Nat.{ℕ, zero, suc, _+_, _*_, _%_, _^_}
 use lib.Dec.{eqb}
 use lib.Bits.{bitOr}
-use lib.ListN.{length}
 use Rattle.fields.specs.Field.{field, store, sideBySide}
-use Rattle.fields.specs.Bytes.{num, size}
 use Rattle.instructions.specs.declared.items.Made.{Made}
 
 -- 01, Vectors, Bit fields, Move: what an item reads is bits of memory from one on, or a value: a register "itself", zeros for S, the literal byte.
@@ -80,8 +76,3 @@ flagsTogether s L (suc k) x f = bitOr (flagsTogether s L k x f) (flagsAt s L k x
 abbrev pub whole : Shape → ℕ → ℕ → MemoryAndFlags → MemoryAndFlags
 whole s L k w =
     worked (store L (s .result) (k * s .width) (sideBySide (s .width) (itemAt s L) k (w .memory)) (w .memory)) (flagsTogether s L k (w .memory) (w .flags))
-
--- 01, Steps: m' and f' are what the lent bytes m and the flags f come to by k items from item `from` on.
-pub record Turned (s : Shape) (from k : ℕ) (m : List ℕ) (f : ℕ) (m' : List ℕ) (f' : ℕ) : Type 0 where
-  pub as-long : length m' ≡ length m
-  pub does : worked (num m') f' ≡ turns s (size m) from k (worked (num m) f)

@@ -14,7 +14,7 @@ use Rattle.instructions.specs.declared.table.Kind.{Kind}
 use Rattle.instructions.specs.declared.table.Row.{Row}
 use Rattle.instructions.specs.declared.table.Found.{Found}
 use Rattle.instructions.specs.declared.table.Found.the-variants.{At, Nothing}
-use Rattle.instructions.specs.Meanings.{plain, ofWord, ofHalf, same, less, Act, toT, toHalfT, loadsByte, loadsWord, storesByte, storesWord, Work, gathers, eachOfAB, eachOfA, halfOfA, moves, Meaning, unlisted, exits, acts, branches, works, kindFor}
+use Rattle.instructions.specs.Meanings.{plain, ofWord, ofHalf, same, less, Act, toT, toHalfT, loadsByte, loadsWord, storesByte, storesWord, gathers, eachOfAB, eachOfA, halfOfA, moves, Meaning, unlisted, exits, acts, branches, works, kindFor}
 
 -- ---- places in a word
 
@@ -145,9 +145,6 @@ table =
 abbrev pub rowOf : Line → Row
 rowOf l = (l .code, l .format, l .allowed, l .zeros, l .named, kindFor (l .means))
 
-abbrev pub codeOf : Row → ℕ
-codeOf r = r .0
-
 abbrev pub formatOf : Row → ℕ
 formatOf r = r .1
 
@@ -162,6 +159,23 @@ namedOf r = r .4
 
 abbrev pub kindOf : Row → Kind
 kindOf r = r .5
+
+-- whether the instructions of a kind go by items
+abbrev pub hasItems : Kind → Bool
+hasItems Kind.Exit = false
+hasItems Kind.Register = false
+hasItems Kind.Branch = false
+hasItems Kind.LoadByte = false
+hasItems Kind.StoreByte = false
+hasItems Kind.LoadWord = false
+hasItems Kind.StoreWord = false
+hasItems Kind.Compress = true
+hasItems Kind.Merge = true
+hasItems Kind.Mask = true
+hasItems Kind.TwoSources = true
+hasItems Kind.OneSource = true
+hasItems Kind.HalfResult = true
+hasItems Kind.Move = true
 
 -- 01, Instruction words: formats 1, 3 and C have 64 bits and a G, formats 4, 7 and A have 32 bits.
 abbrev pub long : ℕ → Bool

@@ -2,7 +2,6 @@
 ghost use mathlib.Core.Path.{_≡_};
 ghost use mathlib.Core.Bool.{true, false};
 ghost use Prim.Native.Nat.{_+_, _-_, _*_, _/_, _%_, _^_, _<_, _≤_, min};
-ghost use lib.ListN.{length};
 ghost use Rattle.fields.specs.Slot.{get};
 ghost use Rattle.fields.specs.Field.{field, store};
 ghost use Rattle.fields.specs.Bytes.{num, size};

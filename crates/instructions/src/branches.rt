@@ -1,4 +1,4 @@
-// Compare and branch: B0 to B5.
+// Compare and branch: codes B0 to B5.
 ghost use mathlib.Core.Path.{_≡_};
 ghost use Rattle.instructions.specs.Meanings.{less, same};
 ghost use Rattle.instructions.specs.Table.{meaningOf};
@@ -12,10 +12,9 @@ use crate::operands::code_in;
 use crate::operands::g_bit_4;
 use fields::units::BitAddress;
 use fields::units::HalfWordCount;
+use fields::units::WRAP;
 use numbers::number::Number;
 use numbers::words;
-
-const WRAP: u64 = 0x1_0000_0000_0000;
 
 // Low 48 of m is less than low 48 of n.
 fn less(unsigned: bool, m: u64, n: u64) -> bool

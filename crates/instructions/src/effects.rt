@@ -2,7 +2,8 @@
 ghost use mathlib.Core.Path.{_≡_};
 ghost use lib.ListN.{length};
 ghost use Rattle.fields.specs.Field.{store};
-ghost use Rattle.instructions.specs.Effects.{halfAt, withHalf, Reaches, Applied, fallsThrough};
+ghost use Rattle.instructions.specs.Effects.{halfAt, withHalf, fallsThrough};
+ghost use Rattle.instructions.specs.Private.Accepted.{Applied, Reaches};
 use fields::memory;
 use fields::units::BitAddress;
 

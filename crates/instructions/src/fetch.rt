@@ -77,7 +77,7 @@ pub fn fetch(memory: &[u8], p: BitAddress) -> u64
     (word >> 32) << 32
 }
 
-// 4: the word at P is not wholly in memory.
+// Refusal 4: the word at P is not wholly in memory.
 pub fn unfetched(p: BitAddress, long: bool, lent: ByteCount) -> bool
     ensures { λ r. ⌜ r ≡ unfetchedAt (p .0) long (lent .0) ⌝ }
 {

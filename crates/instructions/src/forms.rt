@@ -3,8 +3,7 @@
 // the code as a parameter would be proved as well, and would be one loop that asks the code for every item (tests/loops).
 ghost use mathlib.Core.Bool.{false};
 ghost use Prim.Native.Nat.{_+_, _/_};
-ghost use Rattle.instructions.specs.Items.{Turned};
-ghost use Rattle.instructions.specs.Private.Loops.{lanesFor, lanesOf, lanesAlone, LanesReach, AloneReach, makesAt, widthAt, Suited};
+ghost use Rattle.instructions.specs.Private.Loops.{lanesFor, lanesOf, lanesAlone, LanesReach, AloneReach, makesAt, widthAt, Suited, Turned};
 use crate::items::VectorPlan;
 use crate::lanes::Lanes;
 use crate::lanes::lanes_of;

@@ -16,9 +16,8 @@ use fields::units::BitAddress;
 use fields::units::BitCount;
 use fields::units::ByteCount;
 use fields::units::HalfWordCount;
+use fields::units::WRAP;
 use fields::units::WordCount;
-
-const WRAP: u64 = 0x1_0000_0000_0000;
 
 // A field of no bits is not there: a source that is broadcast or not used, the control field of Z 00, what nothing is read from, and all of an instruction that
 // has no items.
@@ -74,11 +73,11 @@ fn fields_at(result: Field, first: Field, second: Field, control: Field, short: 
     ensures { λ r. ⌜ r ≡ fieldsAt result first second control short ⌝ }
 {
     Fields {
-        result: result,
-        first: first,
-        second: second,
-        control: control,
-        short: short,
+        result,
+        first,
+        second,
+        control,
+        short,
         taken: false,
         target: BitAddress(0),
     }
@@ -91,14 +90,14 @@ fn no_fields() -> Fields
     fields_at(none, none, none, none, false)
 }
 
-// 12 and 13: the byte at R plus S bytes.
+// Codes 12 and 13: the byte at R plus S bytes.
 pub fn byte_at(o: Operands) -> Field
     ensures { λ r. ⌜ r ≡ addressedItem Byte o ⌝ }
 {
     Field::of_bytes(plus_bytes(o.g, o.x), ByteCount(1))
 }
 
-// 7E and 7F: the word at R plus S words.
+// Codes 7E and 7F: the word at R plus S words.
 pub fn word_at(o: Operands) -> Field
     ensures { λ r. ⌜ r ≡ addressedItem Word o ⌝ }
 {

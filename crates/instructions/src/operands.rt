@@ -67,9 +67,9 @@ pub fn gather(word: u64, registers: &[u64]) -> Operands
     let a = operand(registers, word, 32);
     if word % 0x1_0000_0000 == 0 {
         return Operands {
-            g: g,
-            x: x,
-            a: a,
+            g,
+            x,
+            a,
             y: MACHINE_ZERO,
             b: MACHINE_ZERO,
             z: MACHINE_ZERO,
@@ -81,12 +81,12 @@ pub fn gather(word: u64, registers: &[u64]) -> Operands
     let z = operand(registers, word, 8);
     let c = operand(registers, word, 0);
     Operands {
-        g: g,
-        x: x,
-        a: a,
-        y: y,
-        b: b,
-        z: z,
-        c: c,
+        g,
+        x,
+        a,
+        y,
+        b,
+        z,
+        c,
     }
 }

@@ -87,7 +87,7 @@ pub fn bits(rule: Rule, o: Operands) -> BitPlan
     ensures { λ r. ⌜ r ≡ bitsIn rule o ⌝ }
 {
     BitPlan {
-        rule: rule,
+        rule,
         first: place(base_in(o.g)),
         second: second_bits(o.x),
         result: place(base_in(o.a)),

@@ -1,7 +1,7 @@
 // The one constant table: a row for each function code, and the row of a code in constant time.
 ghost use mathlib.Core.Path.{_≡_};
-ghost use Rattle.instructions.specs.Table.{formatOf, namedOf, kindOf, vectorFormat, long, zeroBits, found, placed};
-ghost use Rattle.instructions.specs.Private.Inner.{Stands, hasItems};
+ghost use Rattle.instructions.specs.Table.{formatOf, namedOf, kindOf, vectorFormat, long, zeroBits, found, placed, hasItems};
+ghost use Rattle.instructions.specs.Private.Inner.{Stands};
 
 // The designators, each the bits of its place in a word: F R S T of 32 bits, which stand in the left half, and F G X A Y B Z C of 64.
 const R: u64 = 0x00FF_0000_0000_0000;

@@ -63,7 +63,7 @@ fn overlapping(f: Fields) -> bool
     clash(result, f.first) | (clash(result, f.second) | result.shares(f.control))
 }
 
-// 8 to 11: what the fields are refused for, or 0. An instruction whose fields are all empty passes.
+// Refusals 8 to 11: what the fields are refused for, or 0. An instruction whose fields are all empty passes.
 fn refusal(f: Fields, lent: ByteCount) -> u64
     ensures { λ r. ⌜ r ≡ refusalOf f (lent .0) ⌝ }
 {
@@ -82,7 +82,7 @@ fn refusal(f: Fields, lent: ByteCount) -> u64
     0
 }
 
-// 1 and 8 to 11: what a listed word is refused for, once it is known to lie in memory.
+// Exit, 1, and refusals 8 to 11: what a listed word is refused for, once it is known to lie in memory.
 fn listed(row: Row, word: u64, o: Operands, lent: ByteCount) -> u64
     ensures { λ r. ⌜ r ≡ listedOf row word o (lent .0) ⌝ }
 {
@@ -132,14 +132,14 @@ pub fn may_work(p: BitAddress, word: u64, o: Operands, lent: ByteCount) -> bool
     }
 }
 
-// The one field of a load or a store passes 8 and 10.
+// Refusals 8 and 10 do not meet the one field of a load or a store.
 fn reached(f: Field, lent: ByteCount) -> bool
     ensures { λ r. ⌜ r ≡ alignedInside f (lent .0) ⌝ }
 {
     f.aligned() & f.inside(lent)
 }
 
-// A branch passes 8.
+// Refusal 8 does not meet a branch.
 fn arrives(word: u64, o: Operands) -> bool
     ensures { λ r. ⌜ r ≡ arrives word o ⌝ }
 {
@@ -147,7 +147,7 @@ fn arrives(word: u64, o: Operands) -> bool
     !taken(word, o) | (to.0 % 32 == 0)
 }
 
-// A listed word of this kind takes one step, and passes 8 to 11.
+// A listed word of this kind takes one step, and none of 8 to 11 refuses it.
 fn one_step_of(kind: Kind, word: u64, o: Operands, lent: ByteCount) -> bool
     ensures { λ r. ⌜ r ≡ oneStepOf kind word o (lent .0) ⌝ }
 {

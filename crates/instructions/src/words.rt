@@ -22,7 +22,7 @@ pub struct Parts {
 // Why a word is refused by itself.
 pub enum Refusal {
     NotListed, // 5: function not in the table
-    NotZero, // 6: a bit that is to be zero isn't
+    NotZero, // Refusal 6: a bit that is to be zero isn't
     NoMeaning, // 7: designator 00, or half word 00 or 01, where that has no meaning
 }
 
@@ -108,7 +108,7 @@ fn uncontrolled(word: u64) -> bool
     false
 }
 
-// 6: a bit that is to be zero isn't.
+// Refusal 6: a bit that is to be zero isn't.
 fn not_zero(row: Row, word: u64) -> bool
     ensures { λ r. ⌜ r ≡ notZero row word ⌝ }
 {
@@ -131,7 +131,7 @@ fn filled(x: u64) -> u64
     (sum | x) & 0x8080_8080_8080_8080
 }
 
-// 7: a byte of the word has none of the bits that its place has in `named`.
+// Refusal 7: a byte of the word has none of the bits that its place has in `named`.
 fn lacks(named: u64, word: u64) -> bool
     ensures { λ r. ⌜ r ≡ missing named word ⌝ }
 {

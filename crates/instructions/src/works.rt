@@ -1,10 +1,8 @@
 // The work of a plan that the checks let pass, by plain numbers: an instruction's items, from one of them on.
-ghost use mathlib.Core.Path.{_≡_};
 ghost use Prim.Native.Nat.{_+_, _≤_, _<_};
-ghost use Rattle.instructions.specs.Items.{Turned};
 ghost use Rattle.instructions.specs.Plan.{vectors, bitRuns, byteMove, shapeOf, itemsOf};
 ghost use Rattle.instructions.specs.Private.Accepted.{Ready};
-ghost use Rattle.instructions.specs.Private.Loops.{makesAt, widthAt, Suited, lanesFor};
+ghost use Rattle.instructions.specs.Private.Loops.{makesAt, widthAt, Suited, lanesFor, Turned};
 use crate::bitruns;
 use crate::forms;
 use crate::items::BitPlan;

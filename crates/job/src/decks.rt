@@ -87,7 +87,7 @@ impl Deck {
 
     pub fn of(bytes: usize, rec: Record) -> Deck {
         Deck {
-            bytes: bytes,
+            bytes,
             p: rec.p,
             mark: rec.mark,
             held: rec.word,
@@ -153,7 +153,7 @@ fn one(name: Name, value: Number, left: Number) -> Line {
         return Line::Wrong(LineFault::WordsLeft);
     };
     Line::Says(Entry {
-        name: name,
+        name,
         place: 0,
         value: v,
     })
@@ -171,7 +171,7 @@ fn two(name: Name, place: Number, value: Number, left: Number) -> Line {
         return Line::Wrong(LineFault::WordsLeft);
     };
     Line::Says(Entry {
-        name: name,
+        name,
         place: k,
         value: v,
     })
@@ -192,7 +192,7 @@ fn scanned_at(text: &[u8], from: usize) -> Scanned
     let end = word.to;
     Scanned {
         number: scan::hex(&text[start..end]),
-        end: end,
+        end,
     }
 }
 

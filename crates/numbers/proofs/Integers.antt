@@ -8,13 +8,13 @@ use native.Mathlib.Nat.{zero-add, one-mul, mod-eq-of-lt, two-pow-succ}
 use native.Mathlib.Numerals.{add-one}
 use native.Mathlib.Omega.{arith}
 use borrow.Author.Tests.{le-ltb, lt-ltb, ltb-true}
-use lib.Dec.{T, ltb}
+use lib.Dec.{T}
 use lib.IntN.{ℤ, pos, negsuc, negℤ, _+ℤ_, _-ℤ_, subℕ, natAbs, +ℤ-idl}
 use lib.Signed.{mag, ltZ, nonNeg}
 use lib.Pow.{pow-mono, pow-lt, pow-pos}
 use mir.Syntax.{w64}
-use mir.Val.{SFits, Fits, toZ, ofZ}
-use mir.Facts.{toZ-pos, toZ-ofZ}
+use mir.Val.{Fits, toZ, ofZ}
+use mir.Facts.{toZ-ofZ}
 
 pub le-or-lt : (a b : ℕ) → (a ≤ b) ⊎ (b < a)
 le-or-lt zero b = inl zero-le

@@ -1,7 +1,7 @@
 -- Truncate, floor and ceiling (70, 71, 72), over the widths of a number. Assumes nothing.
 use Prim.Native.Nat.{ℕ, _^_}
-use mathlib.Core.Bool.{Bool, cond}
-use lib.IntN.{ℤ, pos, natAbs}
+use mathlib.Core.Bool.{cond}
+use lib.IntN.{pos, natAbs}
 use lib.Signed.{ltZ}
 use Rattle.numbers.specs.declared.division.Rounding.{Rounding}
 use Rattle.numbers.specs.declared.division.Rounding.the-variants.{Zero, Down, Up}

@@ -1,4 +1,4 @@
-// Rotation and right shift with sign of one word, by shifts and masks: 8A.
+// Rotation and right shift with sign of one word, by shifts and masks: code 8A. A word is complemented by a subtraction from all ones (decision 71).
 ghost use mathlib.Core.Path.{_≡_};
 ghost use Prim.Native.Nat.{_<_};
 ghost use Rattle.numbers.specs.Shift.{rotated, movedRight, shiftOf};

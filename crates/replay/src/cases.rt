@@ -109,7 +109,7 @@ fn judged(case: u64, space: &mut [u8], registers: &mut [u64]) -> bool
     let rec = words::record(space);
     let asked = Asked {
         size: size as usize,
-        rec: rec,
+        rec,
         budget: budget as u32,
         part: part as u32,
     };

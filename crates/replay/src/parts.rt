@@ -34,9 +34,9 @@ fn together(sum: Outcome, last: Outcome) -> Outcome
     let answer = last.answer;
     let rec = last.rec;
     Outcome {
-        answer: answer,
+        answer,
         steps: sum.steps + last.steps,
-        rec: rec,
+        rec,
     }
 }
 

@@ -16,11 +16,11 @@ pub fn record(space: &[u8]) -> Record
     let items = bytes::word(space, 40);
     let flags = bytes::word(space, 48);
     Record {
-        p: p,
-        mark: mark,
-        word: word,
-        items: items,
-        flags: flags,
+        p,
+        mark,
+        word,
+        items,
+        flags,
     }
 }
 

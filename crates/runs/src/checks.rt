@@ -8,6 +8,7 @@ use crate::records::Record;
 use crate::typed::may_work;
 use fields::memory::lent_length_is_right;
 use fields::units::ByteCount;
+use fields::units::WRAP;
 use instructions::instruction::count;
 use instructions::operands::Operands;
 use instructions::operands::gather;
@@ -39,7 +40,7 @@ fn flags_right(flags: u64) -> bool
 fn place_right(p: u64) -> bool
     ensures { λ r. ⌜ r ≡ placeRight p ⌝ }
 {
-    if p < 0x1_0000_0000_0000 {
+    if p < WRAP {
         return p % 32 == 0;
     }
     false

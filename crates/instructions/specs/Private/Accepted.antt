@@ -5,9 +5,9 @@ use mathlib.Core.Logic.{_⊎_}
 use mathlib.Core.List.{List}
 use Prim.Native.Nat.{ℕ, _+_, _*_, _%_, _^_, _≤_, _<_, min}
 use lib.ListN.{length}
-use Rattle.fields.specs.declared.extents.Unit.the-variants.{Byte, Word}
+use Rattle.fields.specs.declared.extents.Unit.the-variants as unit
 use Rattle.fields.specs.Field.{Apart}
-use Rattle.fields.specs.Bytes.{size}
+use Rattle.fields.specs.Bytes.{num, size}
 use Rattle.fields.specs.Gathers.{pastR, pastS, furthest}
 use Rattle.instructions.specs.declared.items.Source.{Source}
 use Rattle.instructions.specs.declared.items.Source.the-variants.{Field, Value}
@@ -22,6 +22,9 @@ use Rattle.fields.specs.Memory.{AtByte}
 use Rattle.instructions.specs.declared.operands.Operands.{Operands}
 use Rattle.instructions.specs.Meanings.{toT, toHalfT, loadsByte, loadsWord, storesByte, storesWord, Meaning, unlisted, exits, acts, branches, works}
 use Rattle.instructions.specs.Operands.{meaningIn, addressIn}
+use Rattle.instructions.specs.declared.effects.Effect.{Effect}
+use Rattle.instructions.specs.declared.effects.Effect.the-variants.{Nothing, Register, HalfRegister, Byte, Word}
+use Rattle.instructions.specs.Effects.{registersAfter, memoryAfter}
 use Rattle.instructions.specs.Plan.{takenBy, bitItems, Plan, vectors, bitRuns, byteMove, itemsOf}
 
 -- 01, numbers 10 and 11: the n bits at a are in memory and share none with the k bits at c; a field "that nothing is read from is empty and is not checked".
@@ -100,12 +103,26 @@ AddressThereBy unlisted o m = Unit {0}
 AddressThereBy exits o m = Unit {0}
 AddressThereBy (acts (toT f)) o m = Unit {0}
 AddressThereBy (acts (toHalfT f)) o m = Unit {0}
-AddressThereBy (acts loadsByte) o m = AtByte m (addressIn Byte o .0) 8
-AddressThereBy (acts loadsWord) o m = AtByte m (addressIn Word o .0) 64
-AddressThereBy (acts storesByte) o m = AtByte m (addressIn Byte o .0) 8
-AddressThereBy (acts storesWord) o m = AtByte m (addressIn Word o .0) 64
+AddressThereBy (acts loadsByte) o m = AtByte m (addressIn unit.Byte o .0) 8
+AddressThereBy (acts loadsWord) o m = AtByte m (addressIn unit.Word o .0) 64
+AddressThereBy (acts storesByte) o m = AtByte m (addressIn unit.Byte o .0) 8
+AddressThereBy (acts storesWord) o m = AtByte m (addressIn unit.Word o .0) 64
 AddressThereBy (branches c) o m = Unit {0}
 AddressThereBy (works k) o m = Unit {0}
 
 unfoldable pub AddressThere : ℕ → Operands → List ℕ → Type 0
 AddressThere w o m = AddressThereBy (meaningIn w) o m
+
+-- 01, What a call says, 8 and 10: what is stored lies in memory.
+abbrev pub Reaches : Effect → List ℕ → Type 0
+Reaches Nothing m = Unit {0}
+Reaches (Register t v) m = Unit {0}
+Reaches (HalfRegister t v) m = Unit {0}
+Reaches (Byte a v) m = AtByte m (a .0) 8
+Reaches (Word a v) m = AtByte m (a .0) 64
+
+-- 01, How much a contract has to say: the lent bytes m and the registers rs become m' and rs'.
+pub record Applied (e : Effect) (m rs m' rs' : List ℕ) : Type 0 where
+  pub as-long : length m' ≡ length m
+  pub memory : num m' ≡ memoryAfter e (size m) (num m)
+  pub registers : rs' ≡ registersAfter e rs

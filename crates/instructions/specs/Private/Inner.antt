@@ -12,7 +12,7 @@ use Rattle.instructions.specs.declared.table.Kind.{Kind}
 use Rattle.instructions.specs.declared.table.Row.{Row}
 use Rattle.instructions.specs.declared.table.Found.{Found}
 use Rattle.instructions.specs.declared.table.Found.the-variants.{At, Nothing}
-use Rattle.instructions.specs.Table.{Line, table, codeOf, kindOf, find}
+use Rattle.instructions.specs.Table.{Line, table, kindOf, find}
 use Rattle.instructions.specs.Branches.{takenOf, targetOf}
 use Rattle.fields.specs.declared.extents.Unit.the-variants.{Byte, Word}
 use Rattle.instructions.specs.Layout.{addressedItem, ofKind}
@@ -24,27 +24,14 @@ abbrev pub Past : {A : Type 0} → (A → ℕ) → Type 0 → List A → ℕ →
 Past code N [] k = N
 Past code N (x ∷ xs) k = Past code (N × (k ≡ code x → ⊥)) xs k
 
+-- the code of a row
+abbrev pub codeOf : Row → ℕ
+codeOf r = r .0
+
 -- what the cases of a look-up show: the row has the code and stands in the table, or no row has the code
 abbrev pub Stands : Found → ℕ → Type 0
 Stands (At r) k = (k ≡ codeOf r) × (At r ≡ find (codeOf r) table)
 Stands Nothing k = Past (λ (l : Line). l .code) (Unit {0}) table k
-
--- whether the instructions of a kind go by items
-abbrev pub hasItems : Kind → Bool
-hasItems Kind.Exit = false
-hasItems Kind.Register = false
-hasItems Kind.Branch = false
-hasItems Kind.LoadByte = false
-hasItems Kind.StoreByte = false
-hasItems Kind.LoadWord = false
-hasItems Kind.StoreWord = false
-hasItems Kind.Compress = true
-hasItems Kind.Merge = true
-hasItems Kind.Mask = true
-hasItems Kind.TwoSources = true
-hasItems Kind.OneSource = true
-hasItems Kind.HalfResult = true
-hasItems Kind.Move = true
 
 -- 8 to 11 of the list, of fields
 unfoldable pub refusalOf : Fields → ℕ → ℕ

@@ -31,8 +31,13 @@ use Rattle.instructions.specs.declared.items.MovePlan.{MovePlan}
 use Rattle.instructions.specs.declared.items.Made.{Made}
 use Rattle.instructions.specs.Meanings.{plain, gathers, eachOfAB, eachOfA, halfOfA, moves, Meaning, unlisted, exits, acts, branches, works}
 use Rattle.instructions.specs.Table.{meaningOf}
-use Rattle.instructions.specs.Items.{Place, bits, fixed, Shape, Turned}
+use Rattle.instructions.specs.Items.{Place, bits, fixed, Shape, worked, turns}
 use Rattle.instructions.specs.Plan.{vectorShape, takenShape, byteOf}
+
+-- 01, Steps: m' and f' are what the lent bytes m and the flags f come to by k items from item `from` on.
+pub record Turned (s : Shape) (from k : ℕ) (m : List ℕ) (f : ℕ) (m' : List ℕ) (f' : ℕ) : Type 0 where
+  pub as-long : length m' ≡ length m
+  pub does : worked (num m') f' ≡ turns s (size m) from k (worked (num m) f)
 
 -- ---- vectors
 

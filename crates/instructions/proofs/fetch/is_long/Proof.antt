@@ -1,7 +1,6 @@
 -- No code below 80 has 64 bits; of any other the table says it.
 use mathlib.Core.Bool.{false}
 use mathlib.Core.Path.{_∙_}
-use native.Mathlib.Omega.{arith}
 use borrow.Author.Needs.{needs}
 use Rattle.instructions.specs.Fetch.{longIn}
 use Rattle.instructions.specs.Table.{long, formatOf}

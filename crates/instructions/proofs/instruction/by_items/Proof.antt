@@ -1,8 +1,6 @@
 -- `instructions::instruction::by_items` meets its contract. The row of a code has the kind of what the code means.
-use mathlib.Core.Bool.{false}
 use mathlib.Core.Path.{sym, ap, _∙_}
-use Rattle.instructions.specs.declared.table.Found.{Found}
-use Rattle.instructions.specs.Meanings.{Meaning, goesByItems}
+use Rattle.instructions.specs.Meanings.{goesByItems}
 use Rattle.instructions.specs.Table.{found}
 use Rattle.instructions.specs.Instruction.{byItems}
 use Rattle.instructions.proofs.TableRules.{its, its-none}

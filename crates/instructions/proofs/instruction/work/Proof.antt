@@ -1,5 +1,5 @@
 -- `instructions::instruction::work` meets its contract. The plan that the code makes is the word's, and is ready.
-use mathlib.Core.Path.{ap, _∙_}
+use mathlib.Core.Path.{ap}
 use Rattle.instructions.specs.declared.items.BitPlan.{BitPlan}
 use Rattle.instructions.specs.declared.items.MovePlan.{MovePlan}
 use Rattle.instructions.specs.Plan.{vectors, bitRuns, byteMove}

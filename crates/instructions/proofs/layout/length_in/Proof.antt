@@ -1,6 +1,5 @@
 -- `instructions::layout::length_in`: the left 16 bits are all that is left of the right 48. Assumes nothing.
 use mathlib.Core.Path.{sym}
-use Prim.Native.Nat.{_/_, _^_}
 use native.Mathlib.Nat.{mod-eq-of-lt}
 use lib.Pow.{shr-lt}
 use Rattle.instructions.proofs.layout.length_in.Statement.{statement}

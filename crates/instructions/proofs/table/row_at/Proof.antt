@@ -1,5 +1,4 @@
 -- `instructions::table::row_at` meets its contract.
-use mathlib.Core.Path.{_≡_}
 use Rattle.instructions.specs.Table.{table, placed}
 use Rattle.instructions.proofs.TablePlaces.{row-placed, none-placed}
 use native.Mathlib.Omega.{arith}

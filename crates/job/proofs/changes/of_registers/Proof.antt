@@ -1,8 +1,7 @@
 -- A line for each register that changed. Assumes nothing.
 use native.Mathlib.Omega.{arith}
-use mathlib.Core.Path.{_≡_, refl}
-use Prim.Native.Nat.{_-_, _*_, _≤_}
-use lib.ListN.{length}
+use mathlib.Core.Path.{refl}
+use Prim.Native.Nat.{_-_, _≤_}
 use Rattle.job.proofs.changes.of_registers.Statement.{statement}
 use Rattle.job.proofs.changes.of_registers.Tie as tie
 use Rattle.job.proofs.changes.of_registers.Reads as reads

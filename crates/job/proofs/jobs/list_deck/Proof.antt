@@ -1,6 +1,6 @@
 -- The memory that the deck says is a part of what is lent. Assumes nothing.
 use native.Mathlib.Omega.{arith}
-use mathlib.Core.Path.{_≡_, sym, subst}
+use mathlib.Core.Path.{sym}
 use lib.Seq.{length-take-le}
 use borrow.Author.Needs.{needs}
 use Rattle.job.proofs.jobs.list_deck.Statement.{statement}

@@ -1,7 +1,7 @@
 -- A line for each register that is not zero. Assumes nothing.
 use native.Mathlib.Omega.{arith}
 use borrow.Author.Needs.{needs}
-use Prim.Native.Nat.{_+_, _-_, _*_, _≤_}
+use Prim.Native.Nat.{_-_, _≤_}
 use lib.ListN.{length}
 use Rattle.job.proofs.writing.registers.Statement.{statement}
 use Rattle.job.proofs.writing.registers.Tie as tie
