@@ -240,6 +240,9 @@ line-means l i w c s =
     ap (λ (x : Does). x .leaves s) (r .1 .1) ∙ ap (λ (x : Meaning). comesOf x s) (sym (ap meaningOf k ∙ m))
 
 -- 1 is said of the exit alone
-pub exit-means : (p w : ℕ) (o : Operands) (n : ℕ) → verdictOf p w o n ≡ 1 → meaningIn w ≡ exits
-unfolding verdictOf meaningOf every
-exit-means p w o n e = ap meaningOf (eqb-true (codeIn w) 0x09 (only-one 1 (omega arith) (check 4 notInMemory ∷ wordChecks) (check 1 atExit) fieldChecks (caseOf p w o n) tt tt e))
+pub exit-means : (p w : ℕ) (o : Operands) (n : ℕ) → verdictOf p w o n ≡ 1 → (meaningIn w ≡ exits) × (byItems w ≡ false)
+unfolding verdictOf meaningOf byItems every
+exit-means p w o n e =
+    let before = check 4 notInMemory ∷ wordChecks in
+    let m = ap meaningOf (eqb-true (codeIn w) 0x09 (only-one 1 (omega arith) before (check 1 atExit) fieldChecks (caseOf p w o n) tt tt e)) in
+    (m, ap goesByItems m)

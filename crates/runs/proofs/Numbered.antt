@@ -39,10 +39,14 @@ paused-only a e = one-number a Paused (eqb-true _ _ e)
 
 -- ---- a number looked up
 
--- 0 ends nothing
+-- 0 ends nothing, and 1 is the exit
 pub said-0 : saidOf 0 ≡ Allows
 unfolding saidOf
 said-0 = refl
+
+pub said-1 : saidOf 1 ≡ Ends Exit
+unfolding saidOf
+said-1 = refl
 
 -- what the code's cases show is what the list gives
 pub tells-said : (x : Said) (n : ℕ) → Tells x n → x ≡ saidOf n

@@ -1,41 +1,48 @@
 -- What this layer promises of a call, beside the functions' own contracts. `run n s` is the call of budget n at the state s (specs/Calls), which the
 -- contract of the code's `run` cites; `strides j s` is j steps, all of them taken. Each section says which demand it serves:
 -- DEMAND 1, total: a call takes every memory, register set, record and budget, ends, and answers paused, exit or one numbered refusal: sections 1 to 4.
--- DEMAND 2, right: every listed instruction that is not refused does what the machine's documents say: sections 5 to 7.
--- DEMAND 3, resumable: a budget cut into parts gives the same end as one call: sections 8 to 12.
--- Section 13 shows that 01's wrong runs meet none of it.
+-- DEMAND 2, right: every listed instruction that is not refused does what the machine's documents say: sections 5 to 8.
+-- DEMAND 3, resumable: a budget cut into parts gives the same end as one call: sections 9 to 13.
+-- Section 14 shows that 01's wrong runs meet none of it.
 use mathlib.Core.Path.{_≡_, refl, sym, _∙_, ap}
-use mathlib.Core.Bool.{true, false, false≢true}
-use mathlib.Core.List.{List, [], _∷_}
+use mathlib.Core.Bool.{Bool, true, false, false≢true}
+use mathlib.Core.List.{List, [], _∷_, map}
 use mathlib.Core.Logic.{_↔_, _⊎_}
 use Prim.Native.Nat.{ℕ, suc, _+_, _*_, _/_, _%_, _^_, _<_, _≤_}
 use native.Mathlib.Omega.{arith}
 use lib.Bits.{bitOr}
 use lib.ListN.{length, getD}
 use Rattle.fields.specs.Bytes.{Bytes}
+use Rattle.fields.specs.Memory.{rightLength}
 use Rattle.fields.proofs.Lists.{num-inj}
+use Rattle.instructions.specs.Meanings.{Meaning}
+use Rattle.instructions.specs.Table.{Line, table}
+use Rattle.instructions.specs.Operands.{codeIn, meaningIn}
 use Rattle.instructions.specs.Fetch.{lengthOf}
 use Rattle.instructions.specs.Verdict.{caseOf, checks}
 use Rattle.instructions.specs.Items.{worked}
 use Rattle.instructions.specs.Instruction.{byItems, countOf}
+use Rattle.instructions.proofs.TableRules.{In}
+use Rattle.instructions.proofs.Codes.{Before, Result, ends, becomes, Does, codes}
+use Rattle.instructions.proofs.CodesHold.{comesOf, acts-as-listed, works-as-listed, line-means, exit-means}
 use Rattle.instructions.proofs.VerdictOrder.{Earliest, Passes, verdict-is, verdict-none}
 use Rattle.runs.specs.declared.answers.Answer.{Answer}
 use Rattle.runs.specs.declared.answers.Answer.the-variants.{Paused, Exit, Lengths}
 use Rattle.runs.specs.declared.calls.Outcome.{Outcome}
 use Rattle.runs.specs.declared.control.Control.{Control}
 use Rattle.runs.specs.declared.records.Record.{Record}
-use Rattle.runs.specs.Answers.{numberOf, paused, OfChecks}
+use Rattle.runs.specs.Answers.{numberOf, saidOf, paused, OfChecks}
 use Rattle.runs.specs.Records.{possible, half, between}
-use Rattle.runs.specs.Steps.{State, at, lentAt, ended, next, wordAt, operandsAt, verdictAt, itemsAt, acted, begun, heldOperands, heldAt, step, strides}
+use Rattle.runs.specs.Steps.{State, at, lentAt, ended, next, wordAt, operandsAt, verdictAt, itemsAt, finished, acted, begun, heldOperands, heldAt, step, strides}
 use Rattle.runs.specs.Calls.{lengthsRight, Sound, Refused, Called, call, leaves, with00, afterwards, inParts, total, OneOrMore, run}
 use Rattle.runs.specs.Hosts.{LentCall, lent, handed}
 use Rattle.runs.specs.Wholes.{firstItems, allItems, wholes, stepsOf, Partial, cutAt, Reached, wholly, partly}
 use Rattle.runs.specs.Controls.{Sight, seenAt, stepControls, beginAt, finishAt}
 use Rattle.runs.proofs.Choices.{ne-pos}
-use Rattle.runs.proofs.Numbered.{step-answers, later}
-use Rattle.runs.proofs.Soundness.{strides-sound, possible-marked}
+use Rattle.runs.proofs.Numbered.{said-1, step-answers, later}
+use Rattle.runs.proofs.Soundness.{lengths-of, strides-sound, possible-marked}
 use Rattle.runs.proofs.Bursting.{holds-of, burst-half, burst-done}
-use Rattle.runs.proofs.Performing.{step-acted}
+use Rattle.runs.proofs.Performing.{step-refused, step-acted}
 use Rattle.runs.proofs.Iterating.{no-stride, one-stride}
 use Rattle.runs.proofs.Ending.{lengths-wrong, not-possible, all-used, stopped, run-of, ran, run-split}
 use Rattle.runs.proofs.Answering.{stays, taken, says-0, says-any, says-2, says-3, nothing-changed, says-checked, checked-says}
@@ -120,6 +127,11 @@ first-refuses t = record {
   none-refuses = verdict-none (t .rec .p) (wordAt t) (operandsAt t) (t .bytes);
 }
 
+-- The verdict goes by P, the word there, the registers and the memory's length, whatever else memory holds: the address of an item is checked alike, whether its
+-- control bit lets it be stored or not.
+pub whatever-memory-holds : (s t : State) → s .rec .p ≡ t .rec .p → wordAt s ≡ wordAt t → s .registers ≡ t .registers → s .bytes ≡ t .bytes → verdictAt s ≡ verdictAt t
+whatever-memory-holds s t p w r b = cc
+
 -- ---- 4. ONE OUTCOME (demand 1)
 
 -- What the contract of `run` says of the memory, registers and outcome that it leaves is met by one memory, one list of registers and one outcome. (`Bytes`:
@@ -171,9 +183,49 @@ does-one s ok m passes other = run-of 1 s _ (all-used (acted s) ok (one-stride s
 pub does-all : (s : State) → Sound s → s .rec .mark ≡ 0 → verdictAt s ≡ 0 → byItems (wordAt s) ≡ true → run (stepsOf s) s ≡ call (allItems s) Paused (stepsOf s)
 does-all s ok m passes is = run-of (stepsOf s) s _ (all-used (allItems s) ok (steps-whole s ok m passes is) refl)
 
--- BY CODE: what `acted` and `allItems` come to, a line a code in terms of R, S, T or A, B, C; and words and their parts, there and back.
+-- ---- 6. CODE BY CODE (demand 2)
 
--- ---- 6. WHOLE INSTRUCTIONS (demand 2)
+-- What the instruction at P begins with.
+abbrev before : State → Before
+before s = record { p = s .rec .p; word = wordAt s; bytes = s .bytes; memory = s .memory; registers = s .registers; flags = s .rec .flags }
+
+-- What a call of as many steps as the instruction takes leaves: it is done, and the call is paused; or the call ends there, and nothing has changed.
+abbrev leavesAs : Result → State → Called
+leavesAs ends s = call s Exit 0
+leavesAs (becomes d) s = call (finished (s .bytes) d) Paused (stepsOf s)
+
+-- `codes` (instructions, proofs/Codes) is one list that says of each code, in terms of R, S, T or A, B, C, what register, memory item, flags and P become. Where none
+-- of 4 to 11 refuses the word at P, a call leaves what the line of its code says.
+pub does-by-code : (l : Does) → In l codes → (s : State) → Sound s → s .rec .mark ≡ 0 → codeIn (wordAt s) ≡ l .code → verdictAt s ≤ 1
+    → run (stepsOf s) s ≡ leavesAs (l .leaves (before s)) s
+does-by-code l i s ok m c low = by-verdict (verdictAt s) refl low ∙ ap (λ (r : Result). leavesAs r s) (sym (line-means l i (wordAt s) c (before s)))
+  where
+    lent : rightLength (s .bytes) ≡ true
+    lent = lengths-of _ _ (ok .lengths) .0
+
+    by-items : verdictAt s ≡ 0 → (b : Bool) → byItems (wordAt s) ≡ b → run (stepsOf s) s ≡ leavesAs (comesOf (meaningIn (wordAt s)) (before s)) s
+    by-items e true q = does-all s ok m e q ∙ ap (λ (r : Result). leavesAs r s) (works-as-listed (before s) lent e q)
+    by-items e false q =
+        let one : stepsOf s ≡ 1 = rw q in
+        ap (λ (j : ℕ). run j s) one ∙ does-one s ok m e q ∙ ap (λ (j : ℕ). call (acted s) Paused j) (sym one)
+        ∙ ap (λ (r : Result). leavesAs r s) (acts-as-listed (before s) lent e q)
+
+    by-verdict : (n : ℕ) → verdictAt s ≡ n → n ≤ 1 → run (stepsOf s) s ≡ leavesAs (comesOf (meaningIn (wordAt s)) (before s)) s
+    by-verdict 0 e h = by-items e (byItems (wordAt s)) refl
+    by-verdict 1 e h =
+        let x = exit-means (s .rec .p) (wordAt s) (operandsAt s) (s .bytes) e in
+        let one : stepsOf s ≡ 1 = rw (x .1) in
+        run-of (stepsOf s) s _ (stopped 0 s Exit ok (omega (arith, one)) (no-stride s) (step-refused s Exit m (ap saidOf e ∙ said-1)) refl)
+        ∙ ap (λ (k : Meaning). leavesAs (comesOf k (before s)) s) (sym (x .0))
+    by-verdict (suc (suc n)) e h = absurd (omega arith)
+
+-- Every code of the table has its line there, and no other code has one.
+pub all-codes : map (λ (l : Does). l .code) codes ≡ map (λ (l : Line). l .code) table
+all-codes = refl
+
+-- The round trip of words and parts is the theorem of the layer that has them: `taken-apart-and-joined` and `joined-and-taken-apart` (instructions, proofs/Theorems).
+
+-- ---- 7. WHOLE INSTRUCTIONS (demand 2)
 
 -- From a start between two instructions, wherever nothing is half done, the state is the one that some number of whole instructions lead to.
 pub whole-instructions : (n : ℕ) (s : State) → Sound s → s .rec .mark ≡ 0 → run n s .state .rec .mark ≡ 0 → (i : ℕ) × (wholes i s ≡ next (run n s .state))
@@ -183,7 +235,7 @@ whole-instructions n s ok m h = go (run n s .state) (steps-reach (run n s .steps
     go t (wholly i e _ _) h = (i, e)
     go t (partly i k u e _ p is) h = absurd (omega (arith, rw is at h))
 
--- ---- 7. FLAGS AND REGISTER 00 (demand 2)
+-- ---- 8. FLAGS AND REGISTER 00 (demand 2)
 
 -- 01: flags are "set and never cleared": from every start, a call leaves every flag that it found.
 pub flags-kept : (n : ℕ) (s : State) → bitOr (s .rec .flags) (run n s .state .rec .flags) ≡ run n s .state .rec .flags
@@ -197,7 +249,7 @@ never-read n v s = run-00 v n s
 pub never-written : (n : ℕ) (s : State) → getD (run n s .state .registers) 0 0 ≡ getD (s .registers) 0 0
 never-written = same-00-run
 
--- ---- 8. CUTTING (demand 3)
+-- ---- 9. CUTTING (demand 3)
 
 -- A budget may be cut into any parts of one or more: calls one after another, each on the state that the one before left, leave the same registers, memory,
 -- record and flags as one call, with the same last answer and as many steps in all. From every start, an impossible one too; a first part of 0 does no harm.
@@ -209,13 +261,13 @@ cutting n (k ∷ ks) s parts =
     let some : 0 < k + total ks = omega (arith, parts .0) in
     ap (afterwards (run n s)) (cutting k ks (run n s .state) (parts .1)) ∙ sym (run-split n (k + total ks) s some)
 
--- ---- 9. ENDED (demand 3)
+-- ---- 10. ENDED (demand 3)
 
 -- After an exit or a refusal a larger budget gives the same: answer, steps and state.
 pub ended-stays : (n k : ℕ) (s : State) → paused (run n s .answer) ≡ false → run (n + k) s ≡ run n s
 ended-stays n k s = stays n k s (run n s) (ran n s)
 
--- ---- 10. HALF DONE (demand 3)
+-- ---- 11. HALF DONE (demand 3)
 
 -- k steps at a vector, bit or move instruction that passes and has more than k items: the call is paused; memory and flags show exactly the first k items, and
 -- the record holds P, the word as it was fetched, and k (`cutAt` says so).
@@ -251,19 +303,19 @@ goes-on s j ok marked some few = record {
       ap (λ (t : State). t .rec) e ∙ ap (λ (f : ℕ). between (s .rec .p + lengthOf (s .rec .word)) f) (sym (ap (λ (t : State). t .rec .flags) e));
 }
 
--- ---- 11. POSSIBLE AGAIN (demand 3)
+-- ---- 12. POSSIBLE AGAIN (demand 3)
 
 -- A record that a call hands back is possible with the registers and the memory that it hands back, wherever neither 2 nor 3 was said.
 pub possible-again : (n : ℕ) (s : State) → Sound s → Sound (run n s .state)
 possible-again n s ok = strides-sound (run n s .steps) s (run n s .state) ok (steps-taken n s .finished)
 
--- ---- 12. STEP BY STEP (demand 3)
+-- ---- 13. STEP BY STEP (demand 3)
 
 -- Begin, step as often as the budget says, and finish: the same as the one call.
 pub step-by-step : (n : ℕ) (s : State) → finishAt n (stepControls n (beginAt n s)) ≡ run n s
 step-by-step = stepping
 
--- ---- 13. NOT THESE
+-- ---- 14. NOT THESE
 
 -- A run that refuses everything, but where the budget is 0, differs wherever a budget is used up in steps. At a transmit with budget 1 it differs.
 pub not-refusing : (wrong : ℕ → State → Called) → ((n : ℕ) (s : State) → 0 < n → paused (wrong n s .answer) ≡ false)
