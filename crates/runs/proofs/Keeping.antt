@@ -21,10 +21,10 @@ use Rattle.runs.specs.declared.answers.Said.the-variants.{Ends, Allows}
 use Rattle.runs.specs.declared.records.Record.{Record}
 use Rattle.runs.specs.Answers.{saidOf}
 use Rattle.runs.specs.Records.{halfDone, possible}
-use Rattle.runs.specs.Steps.{State, Stepped, ended, next, wordAt, operandsAt, verdictAt, after, burst, passed, finished, acted, begun, answered, fresh, heldOperands, heldAt, held, step, bind, strides}
+use Rattle.runs.specs.Steps.{State, Stepped, ended, next, wordAt, operandsAt, verdictAt, after, burst, passed, finished, acted, begun, fresh, heldOperands, heldAt, held, step, bind, strides}
 use Rattle.runs.specs.Calls.{Stopped, onward, iterate, lengthsRight, call, closed, with00, run}
 use Rattle.runs.proofs.Choices.{cond-holds}
-use Rattle.runs.proofs.Numbered.{allows-passes}
+use Rattle.runs.proofs.Numbered.{allows-passes, led, fresh-led}
 use Rattle.runs.proofs.Ending.{ran}
 use Rattle.runs.proofs.Answering.{taken}
 
@@ -42,10 +42,10 @@ module _ (K : State → State → Type 0) where
     acting : verdictAt s ≡ 0 → K s (acted s)
 
   fresh-onto : (s : State) → Does s → Onto s (fresh s)
-  unfolding fresh begun
-  fresh-onto s d = go (saidOf (verdictAt s)) refl
+  unfolding begun
+  fresh-onto s d = subst (Onto s) (sym (fresh-led s)) (go (saidOf (verdictAt s)) refl)
     where
-      go : (x : Said) → saidOf (verdictAt s) ≡ x → Onto s (answered x (begun s))
+      go : (x : Said) → saidOf (verdictAt s) ≡ x → Onto s (led x (begun s))
       go (Ends a) q = tt
       go Allows q =
           cond-holds (K s) (byItems (wordAt s)) _ _ (cond-holds (K s) (eqb (countOf (wordAt s) (operandsAt s)) 0) _ _ (d .passing) (d .bursting _ _ _))
@@ -150,10 +150,11 @@ module _ (v : ℕ) where
   begun-00 s passes = ap (λ (o : Operands). begunBy o (with00 v s)) (same-operands (wordAt s) s) ∙ begunBy-00 s passes
 
   fresh-00 : (s : State) → fresh (with00 v s) ≡ onwards00 v (fresh s)
-  unfolding fresh
-  fresh-00 s = ap (λ (n : ℕ). answered (saidOf n) (begun (with00 v s))) (same-verdict s) ∙ go (saidOf (verdictAt s)) refl
+  fresh-00 s =
+      fresh-led (with00 v s) ∙ ap (λ (n : ℕ). led (saidOf n) (begun (with00 v s))) (same-verdict s) ∙ go (saidOf (verdictAt s)) refl
+      ∙ ap (onwards00 v) (sym (fresh-led s))
     where
-      go : (x : Said) → saidOf (verdictAt s) ≡ x → answered x (begun (with00 v s)) ≡ onwards00 v (answered x (begun s))
+      go : (x : Said) → saidOf (verdictAt s) ≡ x → led x (begun (with00 v s)) ≡ onwards00 v (led x (begun s))
       go (Ends a) q = refl
       go Allows q = ap next (begun-00 s (allows-passes s q))
 

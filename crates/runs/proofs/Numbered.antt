@@ -1,5 +1,5 @@
 -- The answers and their numbers: one for each, what is looked up among `refusals`, and that no step ends in `Paused`.
-use mathlib.Core.Path.{_≡_, refl, sym, ap, _∙_}
+use mathlib.Core.Path.{_≡_, refl, sym, subst, ap, _∙_}
 use mathlib.Core.Bool.{Bool, true, false, cond, _&&_, false≢true}
 use mathlib.Core.List.{List, [], _∷_}
 use mathlib.Core.Logic.{_⊎_, inl, inr}
@@ -12,7 +12,7 @@ use Rattle.instructions.specs.Verdict.{NumberedCheck, checks}
 use Rattle.instructions.proofs.TablePlaces.{past}
 use Rattle.instructions.proofs.Steps.{NumberIn, verdict-known}
 use Rattle.runs.specs.declared.answers.Answer.{Answer}
-use Rattle.runs.specs.declared.answers.Answer.the-variants.{Paused}
+use Rattle.runs.specs.declared.answers.Answer.the-variants.{Paused, Exit}
 use Rattle.runs.specs.declared.answers.Said.{Said}
 use Rattle.runs.specs.declared.answers.Said.the-variants.{Ends, Allows}
 use Rattle.runs.specs.Answers.{numberOf, refusals, saidOf, paused, OfChecks}
@@ -115,6 +115,29 @@ allows-passes s e = go (verdict-known (s .rec .p) (wordAt s) (operandsAt s) (s .
     go (inl z) = z
     go (inr i) = absurd (false≢true (sym (ap ends e) ∙ number-ends (verdictAt s) checks checks-end i))
 
+-- ---- what is answered is what a number says
+
+abbrev pub led : Said → State → Stepped
+led (Ends a) t = ended a
+led Allows t = next t
+
+look-led : (v : ℕ) (t : State) (bs : List Answer) → lookUp numberOf (λ a. ended a) (next t) v bs ≡ led (lookUp numberOf (λ a. Ends a) Allows v bs) t
+look-led v t [] = refl
+look-led v t (b ∷ bs) = go (eqb v (numberOf b)) (look-led v t bs)
+  where
+    go : (x : Bool) → lookUp numberOf (λ a. ended a) (next t) v bs ≡ led (lookUp numberOf (λ a. Ends a) Allows v bs) t
+        → cond x (ended b) (lookUp numberOf (λ a. ended a) (next t) v bs) ≡ led (cond x (Ends b) (lookUp numberOf (λ a. Ends a) Allows v bs)) t
+    go true e = refl
+    go false e = e
+
+pub answered-led : (v : ℕ) (t : State) → answered v t ≡ led (saidOf v) t
+unfolding answered saidOf
+answered-led v t = look-led v t refusals
+
+pub fresh-led : (s : State) → fresh s ≡ led (saidOf (verdictAt s)) (begun s)
+unfolding fresh
+fresh-led s = answered-led (verdictAt s) (begun s)
+
 -- ---- a step never ends in `Paused`
 
 abbrev Fair : Stepped → Type 0
@@ -122,10 +145,9 @@ Fair (ended a) = paused a ≡ false
 Fair (next s) = Unit {0}
 
 fresh-fair : (s : State) → Fair (fresh s)
-unfolding fresh
-fresh-fair s = go (saidOf (verdictAt s)) refl
+fresh-fair s = subst Fair (sym (fresh-led s)) (go (saidOf (verdictAt s)) refl)
   where
-    go : (x : Said) → saidOf (verdictAt s) ≡ x → Fair (answered x (begun s))
+    go : (x : Said) → saidOf (verdictAt s) ≡ x → Fair (led x (begun s))
     go (Ends a) q =
         let e = said-number (verdictAt s) a q in
         ne-eqb (numberOf a) 0 (λ z. later (verdictAt s) (a, q) .not-0 (sym e ∙ z))

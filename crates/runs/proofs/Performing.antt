@@ -23,10 +23,10 @@ use Rattle.runs.specs.declared.performs.Performed.{Performed}
 use Rattle.runs.specs.declared.performs.Performed.the-variants.{Did, Ended}
 use Rattle.runs.specs.Answers.{saidOf}
 use Rattle.runs.specs.Records.{halfDone, between}
-use Rattle.runs.specs.Steps.{State, at, lentAt, ended, next, wordAt, operandsAt, verdictAt, itemsAt, after, burst, passed, finished, acted, begun, answered, fresh, held, step, strides}
+use Rattle.runs.specs.Steps.{State, at, lentAt, ended, next, wordAt, operandsAt, verdictAt, itemsAt, after, burst, passed, finished, acted, begun, fresh, held, step, strides}
 use Rattle.runs.specs.Calls.{lengthsRight}
 use Rattle.runs.specs.Private.Inner.{Goes, Bursts, Performs, oneStepAt}
-use Rattle.runs.proofs.Numbered.{said-0, allows-passes}
+use Rattle.runs.proofs.Numbered.{said-0, allows-passes, led, fresh-led}
 use Rattle.runs.proofs.Bursting.{holds-of, step-held, performs-burst}
 use Rattle.runs.proofs.Soundness.{lengths-of, small}
 
@@ -85,13 +85,11 @@ step-fresh s m = rw (eq-eqb _ _ m)
 
 -- a word that passes
 pub step-begun : (s : State) → s .rec .mark ≡ 0 → verdictAt s ≡ 0 → step s ≡ next (begun s)
-unfolding fresh
-step-begun s m passes = step-fresh s m ∙ ap (λ (x : Said). answered x (begun s)) (ap saidOf passes ∙ said-0)
+step-begun s m passes = step-fresh s m ∙ fresh-led s ∙ ap (λ (x : Said). led x (begun s)) (ap saidOf passes ∙ said-0)
 
 -- a word that does not
 pub step-refused : (s : State) (a : Answer) → s .rec .mark ≡ 0 → saidOf (verdictAt s) ≡ Ends a → step s ≡ ended a
-unfolding fresh
-step-refused s a m said = step-fresh s m ∙ ap (λ (x : Said). answered x (begun s)) said
+step-refused s a m said = step-fresh s m ∙ fresh-led s ∙ ap (λ (x : Said). led x (begun s)) said
 
 -- the first step of a word that passes, by its kind
 pub step-passed : (s : State) → s .rec .mark ≡ 0 → verdictAt s ≡ 0 → byItems (wordAt s) ≡ true → itemsAt s ≡ 0 → step s ≡ next (passed s)

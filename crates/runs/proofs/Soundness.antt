@@ -1,5 +1,5 @@
 -- A step leaves the lengths right and the record possible where they were.
-use mathlib.Core.Path.{_≡_, refl}
+use mathlib.Core.Path.{_≡_, refl, sym, subst}
 use mathlib.Core.Bool.{true, false, _&&_, _||_}
 use mathlib.Core.List.{List}
 use Prim.Native.Nat.{ℕ, zero, suc, _+_, _%_, _^_, _<_, _≤_}
@@ -20,10 +20,10 @@ use Rattle.runs.specs.declared.answers.Said.the-variants.{Ends, Allows}
 use Rattle.runs.specs.declared.records.Record.{Record}
 use Rattle.runs.specs.Answers.{saidOf}
 use Rattle.runs.specs.Records.{flagsRight, placeRight, betweenTwo, halfDone, possible, half, between}
-use Rattle.runs.specs.Steps.{State, Stepped, ended, next, wordAt, operandsAt, verdictAt, itemsAt, after, burst, passed, acted, begun, answered, fresh, held, step, bind, strides}
+use Rattle.runs.specs.Steps.{State, Stepped, ended, next, wordAt, operandsAt, verdictAt, itemsAt, after, burst, passed, acted, begun, fresh, held, step, bind, strides}
 use Rattle.runs.specs.Calls.{lengthsRight, Sound}
 use Rattle.runs.proofs.Choices.{cond-holds, cond-known, and-true, or-false}
-use Rattle.runs.proofs.Numbered.{allows-passes}
+use Rattle.runs.proofs.Numbered.{allows-passes, led, fresh-led}
 use Rattle.runs.proofs.Bursting.{Stands, holds-of, half-holds}
 
 -- LENGTHS AND RECORDS, BY PARTS
@@ -128,10 +128,9 @@ Keeps (ended a) = Unit {0}
 Keeps (next t) = Sound t
 
 fresh-keeps : (s : State) → Sound s → Keeps (fresh s)
-unfolding fresh
-fresh-keeps s ok = go (saidOf (verdictAt s)) refl
+fresh-keeps s ok = subst Keeps (sym (fresh-led s)) (go (saidOf (verdictAt s)) refl)
   where
-    go : (x : Said) → saidOf (verdictAt s) ≡ x → Keeps (answered x (begun s))
+    go : (x : Said) → saidOf (verdictAt s) ≡ x → Keeps (led x (begun s))
     go (Ends a) q = tt
     go Allows q = begun-sound s ok (allows-passes s q)
 

@@ -20,9 +20,8 @@ use Rattle.instructions.specs.Scalars.{scalarOf}
 use Rattle.instructions.specs.Instruction.{byItems, planOf, countOf, wholeOf, actsOf}
 use Rattle.runs.specs.declared.answers.Answer.the-variants.{Paused, Exit, Lengths}
 use Rattle.runs.specs.declared.records.Record.{Record}
-use Rattle.runs.specs.Answers.{saidOf}
 use Rattle.runs.specs.Records.{flagsRight, placeRight, betweenTwo, halfDone, possible, half, between}
-use Rattle.runs.specs.Steps.{State, at, ended, next, wordAt, verdictAt, itemsAt, begun, fresh, heldOperands, step}
+use Rattle.runs.specs.Steps.{State, at, ended, next, wordAt, verdictAt, itemsAt, begun, answered, fresh, heldOperands, step}
 use Rattle.runs.specs.Calls.{lengthsRight, Sound, call, run}
 use Rattle.runs.specs.Wholes.{firstItems, Partial, cutAt}
 use Rattle.runs.proofs.Iterating.{no-stride}
@@ -92,7 +91,7 @@ pub record Computed : Type 0 where
   pub exits : step exiting ≡ ended Exit
 
 pub computed : Computed
-unfolding lengthsRight possible placeRight flagsRight betweenTwo halfDone step fresh begun saidOf fetchOf twoHalvesAt longIn there unfetchedAt found
+unfolding lengthsRight possible placeRight flagsRight betweenTwo halfDone step fresh begun answered fetchOf twoHalvesAt longIn there unfetchedAt found
     notZero supplied gathered verdictOf fieldsOf ofKind vectorOf sourceOf shortOf controlOf aligned inside shares inPlace misaligned outside overlapping
     byItems planOf planIn meaningOf itemsOf shapeOf wholeOf itemAt storedAt madeAt flagsAt actsOf scalarOf
 computed = record {

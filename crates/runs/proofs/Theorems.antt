@@ -8,7 +8,7 @@ use mathlib.Core.Path.{_≡_, refl, sym, _∙_, ap}
 use mathlib.Core.Bool.{Bool, true, false, false≢true}
 use mathlib.Core.List.{List, [], _∷_, map}
 use mathlib.Core.Logic.{_↔_, _⊎_}
-use Prim.Native.Nat.{ℕ, suc, _+_, _*_, _/_, _%_, _^_, _<_, _≤_}
+use Prim.Native.Nat.{ℕ, zero, suc, _+_, _*_, _/_, _%_, _^_, _<_, _≤_}
 use native.Mathlib.Omega.{arith}
 use lib.Bits.{bitOr}
 use lib.ListN.{length, getD}
@@ -211,8 +211,8 @@ does-by-code l i s ok m c low = by-verdict (verdictAt s) refl low ∙ ap (λ (r 
         ∙ ap (λ (r : Result). leavesAs r s) (acts-as-listed (before s) lent e q)
 
     by-verdict : (n : ℕ) → verdictAt s ≡ n → n ≤ 1 → run (stepsOf s) s ≡ leavesAs (comesOf (meaningIn (wordAt s)) (before s)) s
-    by-verdict 0 e h = by-items e (byItems (wordAt s)) refl
-    by-verdict 1 e h =
+    by-verdict zero e h = by-items e (byItems (wordAt s)) refl
+    by-verdict (suc zero) e h =
         let x = exit-means (s .rec .p) (wordAt s) (operandsAt s) (s .bytes) e in
         let one : stepsOf s ≡ 1 = rw (x .1) in
         run-of (stepsOf s) s _ (stopped 0 s Exit ok (omega (arith, one)) (no-stride s) (step-refused s Exit m (ap saidOf e ∙ said-1)) refl)

@@ -15,11 +15,11 @@ use Rattle.runs.specs.declared.answers.Said.{Said}
 use Rattle.runs.specs.declared.answers.Said.the-variants.{Ends, Allows}
 use Rattle.runs.specs.Answers.{saidOf}
 use Rattle.runs.specs.Records.{between}
-use Rattle.runs.specs.Steps.{State, at, Stepped, ended, next, burst, heldAt, passed, acted, wordAt, operandsAt, verdictAt, itemsAt, answered, heldOperands, step, bind, strides}
+use Rattle.runs.specs.Steps.{State, at, Stepped, ended, next, burst, heldAt, passed, acted, wordAt, operandsAt, verdictAt, itemsAt, heldOperands, step, bind, strides}
 use Rattle.runs.specs.Calls.{Sound}
 use Rattle.runs.specs.Wholes.{firstItems, allItems, wholeStep, wholes, stepsOf, wholeSteps, Partial, cutAt, Reached, wholly, partly}
 use Rattle.runs.proofs.Choices.{ne-pos}
-use Rattle.runs.proofs.Numbered.{said-0, allows-passes}
+use Rattle.runs.proofs.Numbered.{said-0, allows-passes, led, answered-led}
 use Rattle.runs.proofs.Soundness.{lengths-of, strides-sound, possible-marked}
 use Rattle.runs.proofs.Iterating.{one-stride}
 use Rattle.runs.proofs.Bursting.{Stands, holds-of, step-held, burst-half, burst-done, burst-more, strides-some}
@@ -42,13 +42,17 @@ burst-all s k lent passes is all =
     (ap (λ (n : ℕ). at (s .bytes) (firstItems n s .memory) (s .registers) (between (s .rec .p + lengthOf (wordAt s)) (firstItems n s .flags))) all)
 
 -- one whole instruction
-whole-items : (s : State) → verdictAt s ≡ 0 → byItems (wordAt s) ≡ true → wholeStep s ≡ next (allItems s)
+whole-passes : (s : State) → verdictAt s ≡ 0 → wholeStep s ≡ next (cond (byItems (wordAt s)) (allItems s) (acted s))
 unfolding wholeStep
-whole-items s passes is = ap (λ (x : Said). answered x (cond (byItems (wordAt s)) (allItems s) (acted s))) (ap saidOf passes ∙ said-0) ∙ rw is
+whole-passes s passes =
+    let t = cond (byItems (wordAt s)) (allItems s) (acted s) in
+    answered-led (verdictAt s) t ∙ ap (λ (x : Said). led x t) (ap saidOf passes ∙ said-0)
+
+whole-items : (s : State) → verdictAt s ≡ 0 → byItems (wordAt s) ≡ true → wholeStep s ≡ next (allItems s)
+whole-items s passes is = whole-passes s passes ∙ rw is
 
 whole-acted : (s : State) → verdictAt s ≡ 0 → byItems (wordAt s) ≡ false → wholeStep s ≡ next (acted s)
-unfolding wholeStep
-whole-acted s passes other = ap (λ (x : Said). answered x (cond (byItems (wordAt s)) (allItems s) (acted s))) (ap saidOf passes ∙ said-0) ∙ rw other
+whole-acted s passes other = whole-passes s passes ∙ rw other
 
 one-more : (s u : State) (i : ℕ) (t : State) → wholes i s ≡ next u → wholeStep u ≡ next t → wholes (suc i) s ≡ next t
 unfolding wholes

@@ -31,7 +31,7 @@ numberOf Shared = 11
 abbrev pub refusals : List Answer
 refusals = Exit ∷ NotThere ∷ NotListed ∷ NotZero ∷ Designator ∷ Misaligned ∷ Short ∷ Outside ∷ Shared ∷ []
 
--- A number that the checks gave, looked up among them: the answer that ends the run. A number of none of them ends nothing, and the step is taken.
+-- What a number that the checks gave says: the answer that has it ends the run. A number of none of them ends nothing, and the step is taken.
 unfoldable pub saidOf : ℕ → Said
 saidOf n = lookUp numberOf (λ a. Ends a) Allows n refusals
 

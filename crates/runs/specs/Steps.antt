@@ -6,6 +6,7 @@ use lib.Dec.{eqb, ltb}
 use lib.ListN.{length}
 use Rattle.fields.specs.Bytes.{num}
 use Rattle.instructions.specs.declared.operands.Operands.{Operands}
+use Rattle.instructions.specs.Table.{lookUp}
 use Rattle.instructions.specs.Fetch.{fetchOf, lengthOf}
 use Rattle.instructions.specs.Operands.{gathered}
 use Rattle.instructions.specs.Verdict.{verdictOf}
@@ -13,10 +14,8 @@ use Rattle.instructions.specs.Items.{MemoryAndFlags, worked}
 use Rattle.instructions.specs.Instruction.{byItems, countOf, worksOf, Done, actsOf}
 use Rattle.runs.specs.declared.answers.Answer.{Answer}
 use Rattle.runs.specs.declared.answers.Answer.the-variants.{Impossible}
-use Rattle.runs.specs.declared.answers.Said.{Said}
-use Rattle.runs.specs.declared.answers.Said.the-variants.{Ends, Allows}
 use Rattle.runs.specs.declared.records.Record.{Record}
-use Rattle.runs.specs.Answers.{saidOf}
+use Rattle.runs.specs.Answers.{numberOf, refusals}
 use Rattle.runs.specs.Records.{halfDone, half, between}
 
 -- 01, The machine that the job sees: memory of so many bytes as one number, registers, record.
@@ -86,14 +85,13 @@ acted s = finished (s .bytes) (actsOf (s .rec .p) (wordAt s) (operandsAt s) (s .
 unfoldable pub begun : State → State
 begun s = cond (byItems (wordAt s)) (cond (eqb (itemsAt s) 0) (passed s) (burst (wordAt s) (operandsAt s) 0 1 s)) (acted s)
 
--- What the checks say: the run ends with an answer, or the step leads to t.
-abbrev pub answered : Said → State → Stepped
-answered (Ends a) t = ended a
-answered Allows t = next t
+-- The answer among `refusals` that has the number v ends the run. A number of none of them ends nothing, and the step leads to t.
+unfoldable pub answered : ℕ → State → Stepped
+answered v t = lookUp numberOf (λ a. ended a) (next t) v refusals
 
 -- 01, Steps: "All checks come before the first step."
 unfoldable pub fresh : State → Stepped
-fresh s = answered (saidOf (verdictAt s)) (begun s)
+fresh s = answered (verdictAt s) (begun s)
 
 -- 01, Instruction words: what the registers that the held word names supply.
 abbrev pub heldOperands : State → Operands

@@ -5,7 +5,6 @@ use Prim.Native.Nat.{ℕ, zero, suc, _+_, _<_, max}
 use Rattle.instructions.specs.Fetch.{lengthOf}
 use Rattle.instructions.specs.Items.{MemoryAndFlags, worked}
 use Rattle.instructions.specs.Instruction.{byItems, wholeOf}
-use Rattle.runs.specs.Answers.{saidOf}
 use Rattle.runs.specs.Records.{half, between}
 use Rattle.runs.specs.Steps.{State, at, Stepped, ended, next, wordAt, operandsAt, verdictAt, itemsAt, acted, answered, bind}
 
@@ -20,7 +19,7 @@ allItems s = at (s .bytes) (firstItems (itemsAt s) s .memory) (s .registers) (be
 
 -- The instruction at P, whole, or why it is refused.
 unfoldable pub wholeStep : State → Stepped
-wholeStep s = answered (saidOf (verdictAt s)) (cond (byItems (wordAt s)) (allItems s) (acted s))
+wholeStep s = answered (verdictAt s) (cond (byItems (wordAt s)) (allItems s) (acted s))
 
 -- i instructions, all of them done.
 unfoldable pub wholes : ℕ → State → Stepped
