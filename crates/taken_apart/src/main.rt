@@ -4,6 +4,7 @@ mod jobs; // memory and registers by value: the jobs that are run
 mod lent; // what a run is lent and what it leaves, in lines
 mod of_refusals; // runs that begin refuses
 mod of_steps; // runs of real steps
+mod of_table; // the table, row by row
 mod of_words; // words, their parts, and 5, 6 and 7 both ways
 
 fn main() {
@@ -14,6 +15,7 @@ fn main() {
     of_refusals::twelve_bytes();
     of_refusals::too_few_registers();
     of_refusals::of_other_lengths();
+    of_table::rows();
     of_words::each_code();
     of_words::listed();
     of_words::refused();
