@@ -326,7 +326,8 @@ pub fn row_at(place: usize) -> Found
 {
     let rows = ROWS;
     if place < 38 {
-        return Found::At(rows[place]);
+        let row = rows[place];
+        return Found::At(row);
     }
     Found::Nothing
 }

@@ -6,11 +6,11 @@ use borrow.Author.Needs.{needs}
 use Rattle.instructions.proofs.table.row_at.Statement.{statement}
 use Rattle.instructions.proofs.table.row_at.Tie as tie
 
-mul-t81 : tie.Need-mul-t81
-mul-t81 c = search needs
+mul-row : tie.Need-mul-row
+mul-row c = search needs
 
-array-copy-out-t84 : tie.Need-array-copy-out-t84
-array-copy-out-t84 c = search needs
+array-copy-out-row : tie.Need-array-copy-out-row
+array-copy-out-row c = search needs
 
 returns : tie.Need-returns
 unfolding placed
@@ -21,4 +21,4 @@ unfolding placed
 returns-2 c = none-placed table (c .before .args .place) (omega arith)
 
 pub row-at-spec : {M : Type 1} → statement M
-row-at-spec = tie.close (tie.spec mul-t81 array-copy-out-t84 returns returns-2)
+row-at-spec = tie.close (tie.spec mul-row array-copy-out-row returns returns-2)
