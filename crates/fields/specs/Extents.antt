@@ -1,4 +1,4 @@
--- A field: so many bits from an address on. What 01's numbers 8, 10 and 11 ask of it ("What a call says").
+-- A field, so many bits from an address on, and what refusals 8, 10 and 11 ask of it: sections 2 and 12 of docs/MACHINE.md.
 use mathlib.Core.Bool.{Bool, not, _&&_, _||_}
 use Prim.Native.Nat.{ℕ, _+_, _*_, _%_}
 use lib.Dec.{eqb, ltb, leb}
@@ -9,48 +9,48 @@ use Rattle.fields.specs.declared.units.BitAddress.{BitAddress}
 use Rattle.fields.specs.Memory.{origin}
 use Rattle.fields.specs.Units.{inBits}
 
--- "it turns into bits by shifting left 0, 3, 5 or 6 (000, 3.1.5)"
+-- §2.1: the places by which a count in a unit is shifted.
 abbrev pub unitShift : U.Unit → ℕ
 unitShift Bit = 0
 unitShift Byte = 3
 unitShift HalfWord = 5
 unitShift Word = 6
 
--- "A word has 64 bits, a half word 32"
+-- §1.1, §2.1: the bits of a unit.
 abbrev pub widthOf : U.Unit → ℕ
 widthOf Bit = 1
 widthOf Byte = 8
 widthOf HalfWord = 32
 widthOf Word = 64
 
--- a field of so many items, from an address on; "it turns into bits"
+-- §2.6: a field of so many items of a unit, from an address on.
 abbrev pub fieldOf : U.Unit → BitAddress → ℕ → Field
 fieldOf u base items = record { base = base; bits = record { 0 = inBits (unitShift u) items }; unit = u }
 
--- a field that is not there
+-- §12.19: what stands for a field that is not there: one of no bits.
 abbrev pub absentField : Field
 absentField = record { base = record { 0 = 0 }; bits = record { 0 = 0 }; unit = Bit }
 
--- "A field's end never wraps": a plain sum, one past the last bit
+-- §2.6: one past the last bit, a plain sum.
 abbrev pub endOf : Field → ℕ
 endOf f = f .base .0 + f .bits .0
 
--- "one that nothing is read from is empty and is not checked under 8, 10 or 11"
+-- §12.19: a field of no bits passes all three, wherever it is.
 abbrev pub empty : Field → Bool
 empty f = eqb (f .bits .0) 0
 
--- 8 does not refuse it: "word fields and addresses 64, half-word fields 32, bytes 8"
+-- §12.12: refusal 8 lets it pass: its base is a multiple of its unit's width.
 unfoldable pub aligned : Field → Bool
 aligned f = empty f || eqb (f .base .0 % widthOf (f .unit)) 0
 
--- 10 does not refuse it: wholly in a memory of n lent bytes, which "begins at bit address 4000" (hex)
+-- §12.14, §1.5: refusal 10 lets it pass: it lies wholly in a memory of n bytes.
 unfoldable pub inside : Field → ℕ → Bool
 inside f n = empty f || (leb origin (f .base .0) && leb (endOf f) (origin + 8 * n))
 
--- 11: "shares a bit"
+-- §12.15: two fields have a bit in common.
 unfoldable pub shares : Field → Field → Bool
 shares f g = not (empty f) && (not (empty g) && (ltb (f .base .0) (endOf g) && ltb (g .base .0) (endOf f)))
 
--- "Under 11, a word result may be exactly a word source's start": the same unit, a word, and the same start
+-- §12.20: both are of words, and they begin at the same address.
 unfoldable pub inPlace : Field → Field → Bool
 inPlace f g = eqb (widthOf (f .unit)) (widthOf (g .unit)) && (eqb (widthOf (f .unit)) 64 && eqb (f .base .0) (g .base .0))

@@ -1,10 +1,10 @@
--- Counts in four units, and bit addresses: 48 bits each (01, "The machine that the job sees").
+-- Counts in four units, and bit addresses, of 48 bits each: section 2 of docs/MACHINE.md.
 use Prim.Native.Nat.{ℕ, _+_, _*_, _%_, _^_}
 
--- "it turns into bits by shifting left 0, 3, 5 or 6 (000, 3.1.5)": n items of a unit that is shifted left k. "A register's count is its low 48"
+-- §2.1, §2.3: n items of a unit as bits: shifted to the left by the unit's k places, and cut to 48 bits.
 abbrev pub inBits : ℕ → ℕ → ℕ
 inBits k n = n * 2 ^ k % 2 ^ 48
 
--- "formed addresses wrap at 2^48": the address n bits after a
+-- §2.4: the address n bits after a, cut to 48 bits.
 abbrev pub formed : ℕ → ℕ → ℕ
 formed a n = (a + n) % 2 ^ 48
