@@ -1,5 +1,5 @@
--- 01, Examples: those marked *, with 13 and 14, as one table. A row is an instruction, what it is given and what it comes to by the definitions of this crate: the
--- operands are gathered from the registers, of which the first are given, and memory is 8 bytes. Assumes nothing.
+-- Examples as one table: 1 to 5, 7 and 9 to 14 of those that section 15 of docs/MACHINE.md counts. A row is an instruction, what it is given and what
+-- it comes to by the definitions of this crate: the operands are gathered from the registers, of which the first are given, and memory is 8 bytes.
 use mathlib.Core.Path.{_≡_}
 use mathlib.Core.Bool.{Bool, true, false, cond}
 use mathlib.Core.List.{List, [], _∷_}
@@ -15,39 +15,40 @@ use Rattle.instructions.specs.Scalars.{scalarOf}
 use Rattle.instructions.specs.Items.{MemoryAndFlags, worked}
 use Rattle.instructions.specs.Instruction.{countOf, wholeOf}
 
--- 01, Examples: what a row has.
+-- What a row has.
 pub data Example : Type 0 where
-  ofContract : ℕ → ℕ → ℕ → ℕ → Example  -- 76, 77: the code, R, the half word that T becomes, the flags
-  ofRounding : ℕ → ℕ → ℕ → ℕ → Example  -- 70, 71, 72: the code, R, the word that T becomes, the flags
-  ofShift : ℕ → ℕ → ℕ → Example  -- 8A: the items A, B and C
-  ofBits : ℕ → ℕ → ℕ → ℕ → ℕ → ℕ → ℕ → Example  -- 14, 15, 16: the code, R's and S's bits from the left of a byte, r, s, n, T's bits likewise
-  ofBranch : ℕ → ℕ → ℕ → Bool → Example  -- B0, B3: the word, A, C, taken or not
+  ofContract : ℕ → ℕ → ℕ → ℕ → Example  -- codes 76, 77: the code, R, the half word that T becomes, the flags
+  ofRounding : ℕ → ℕ → ℕ → ℕ → Example  -- codes 70, 71, 72: the code, R, the word that T becomes, the flags
+  ofShift : ℕ → ℕ → ℕ → Example  -- code 8A: the items A, B and C
+  ofBits : ℕ → ℕ → ℕ → ℕ → ℕ → ℕ → ℕ → Example  -- codes 14, 15, 16: the code, R's and S's bits from the left of a byte, r, s, n, T's bits likewise
+  ofBranch : ℕ → ℕ → ℕ → Bool → Example  -- codes B0, B3: the word, A, C, taken or not
 
--- 01, Instruction words: what a word comes to that takes one step.
+-- §5.1: what a word comes to that takes one step.
 abbrev pub outcomeAt : ℕ → List ℕ → Outcome
 outcomeAt w registers = scalarOf w (gathered w registers) 8 0
 
--- 01, Steps: memory and flags after all items of a word, on the memory m.
+-- §7.7: memory and flags after all items of a word, on the memory m.
 abbrev pub workedAt : ℕ → List ℕ → ℕ → MemoryAndFlags
 workedAt w registers m = wholeOf w (gathered w registers) 8 (countOf w (gathered w registers)) (worked m 0)
 
--- 01, Instruction words, format A: of a code, with R 01 and T 04.
+-- §3.2: the word of a code of format A, with R 01 and T 04.
 abbrev pub wordA : ℕ → ℕ
 wordA code = code * 2 ^ 56 + 0x00_01_00_04_0000_0000
 
--- 01, Instruction words, format 7: of a code, with R 01, S 02 and T 03.
+-- §3.2: the word of a code of format 7, with R 01, S 02 and T 03.
 abbrev pub word7 : ℕ → ℕ
 word7 code = code * 2 ^ 56 + 0x00_01_02_03_0000_0000
 
--- 01, The machine that the job sees: "length in the left 16 bits, base address in the right 48".
+-- §2.5: a descriptor of its length and base.
 abbrev pub descriptor : ℕ → ℕ → ℕ
 descriptor length base = length * 2 ^ 48 + base
 
--- 01, The machine that the job sees: memory that begins with three bytes; the others are zero.
+-- §1.6: memory that begins with three bytes; the others are zero.
 abbrev pub threeBytes : ℕ → ℕ → ℕ → ℕ
 threeBytes r s t = num (r ∷ s ∷ t ∷ 0 ∷ 0 ∷ 0 ∷ 0 ∷ 0 ∷ [])
 
--- What a row says. 8A has G bits 3 and 4, so that A and B are registers, and one item. B0 and B3 have B 4000 and Y 3.
+-- What a row says. Code 8A has G bits 3 and 4, so that A and B are registers, and one item. Codes B0 and B3 have 4000 in B and 3 in Y, so that the
+-- target is 4060.
 abbrev pub Holds : Example → Type 0
 Holds (ofContract code r t flags) = outcomeAt (wordA code) (0 ∷ r ∷ []) ≡ fallsThrough (HalfRegister 4 t) flags
 Holds (ofRounding code r t flags) = outcomeAt (wordA code) (0 ∷ r ∷ []) ≡ fallsThrough (Register 4 t) flags
@@ -63,7 +64,7 @@ abbrev pub Each : List Example → Type 0
 Each [] = Unit {0}
 Each (r ∷ rs) = Holds r × Each rs
 
--- 01, Examples 1 to 5, 7, 9 to 14.
+-- The rows, in the order of the examples' numbers.
 abbrev pub examples : List Example
 examples =
     ofContract 0x76 0x0000_000001000000 0x18000001 0

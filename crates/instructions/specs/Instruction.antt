@@ -1,5 +1,5 @@
--- An instruction as the layer above sees it, whatever it is: whether it goes by items, how many, what those do one by one and all at once, and what any other does
--- in its one step. Memory is one number of so many bytes. Assumes nothing.
+-- An instruction as the layer above sees it, whatever it is: whether it goes by items, how many, what those do one by one and all at once, and what
+-- any other does in its one step. Sections 5 to 10 of docs/MACHINE.md. Memory is one number of so many bytes.
 use mathlib.Core.Path.{_≡_}
 use mathlib.Core.Bool.{Bool, true, not, _&&_}
 use mathlib.Core.List.{List}
@@ -21,35 +21,35 @@ use Rattle.instructions.specs.Planned.{planIn}
 use Rattle.instructions.specs.Effects.{registersAfter, memoryAfter, nextP}
 use Rattle.instructions.specs.Scalars.{scalarOf}
 
--- 01, Steps: "A vector, bit or move instruction".
+-- §10.2: a vector, bit or move instruction.
 unfoldable pub byItems : ℕ → Bool
 byItems w = goesByItems (meaningIn w)
 
--- 01, Steps: "Every other takes one": a word that no check refuses, and that does not go by items.
+-- §10.3: a word that no check refuses and that does not go by items.
 unfoldable pub oneStep : ℕ → ℕ → Operands → ℕ → Bool
 oneStep p w o n = eqb (verdictOf p w o n) 0 && not (byItems w)
 
--- 01, Steps: "A vector, bit or move instruction" that no check refuses.
+-- §10.2: a word that goes by items and that no check refuses.
 unfoldable pub mayWork : ℕ → ℕ → Operands → ℕ → Bool
 mayWork p w o n = byItems w && eqb (verdictOf p w o n) 0
 
--- Its plan.
+-- §10.2: its plan.
 unfoldable pub planOf : ℕ → Operands → Plan
 planOf w o = planIn (meaningIn w) w o
 
--- 01, Steps: "one step for each result item": how many.
+-- §10.2: how many items it has.
 abbrev pub countOf : ℕ → Operands → ℕ
 countOf w o = itemsOf (planOf w o)
 
--- 01, Steps: items from, .., from + count - 1, one after another.
+-- §7.7: items from, .., from + count - 1, one after another.
 unfoldable pub worksOf : ℕ → Operands → ℕ → ℕ → ℕ → MemoryAndFlags → MemoryAndFlags
 worksOf w o bytes from count x = turns (shapeOf (planOf w o)) (8 * bytes) from count x
 
--- 01, Steps: the instruction as a whole, cut after k items: all at once, from its sources as they stood when it began.
+-- §7.7, §10.5, §13.2: the instruction as a whole, cut after k items: all at once, from its sources as they stood when it began.
 unfoldable pub wholeOf : ℕ → Operands → ℕ → ℕ → MemoryAndFlags → MemoryAndFlags
 wholeOf w o bytes k x = whole (shapeOf (planOf w o)) (8 * bytes) k x
 
--- Memory, registers, P and flags.
+-- §5.1: what an instruction of one step leaves: memory, registers, P and flags; and these put together.
 pub record Done : Type 0 where
   pub memory : ℕ
   pub registers : List ℕ
@@ -59,16 +59,16 @@ pub record Done : Type 0 where
 abbrev pub leaving : ℕ → List ℕ → ℕ → ℕ → Done
 leaving m r p f = record { memory = m; registers = r; p = p; flags = f }
 
--- An outcome, applied.
+-- §5.1, §4.4: an outcome, applied; its flags are added to those that are set.
 abbrev pub doneBy : Outcome → ℕ → ℕ → ℕ → ℕ → List ℕ → ℕ → Done
 doneBy u p bits bytes m r f =
     leaving (memoryAfter (u .effect) (8 * bytes) m) (registersAfter (u .effect) r) (nextP p bits (u .next)) (bitOr f (u .flags))
 
--- 01, Steps: "Every other takes one".
+-- §5.1, §10.3: what a word that does not go by items leaves.
 unfoldable pub actsOf : ℕ → ℕ → Operands → ℕ → ℕ → List ℕ → ℕ → Done
 actsOf p w o bytes m r f = doneBy (scalarOf w o bytes m) p (lengthOf w) bytes m r f
 
--- Items from, .., from + count - 1 of a word may be worked: no check refuses it, and it has them.
+-- Items from, .., from + count - 1 of a word may be worked: no check refuses it, it goes by items, and it has them.
 abbrev pub Workable : ℕ → ℕ → Operands → ℕ → ℕ → ℕ → Type 0
 Workable p w o bytes from count = (rightLength bytes ≡ true) × (verdictOf p w o bytes ≡ 0) × (byItems w ≡ true) × (from + count ≤ countOf w o)
 
@@ -76,6 +76,6 @@ Workable p w o bytes from count = (rightLength bytes ≡ true) × (verdictOf p w
 abbrev pub WorksTo : ℕ → Operands → ℕ → ℕ → List ℕ → ℕ → List ℕ → ℕ → Type 0
 WorksTo w o from count m f m' f' = (length m' ≡ length m) × (worked (num m') f' ≡ worksOf w o (length m) from count (worked (num m) f))
 
--- m', r', P and f' are what the lent bytes m, the registers r, p and the flags f come to by the one step of any other.
+-- m', r', p' and f' are what the lent bytes m, the registers r, p and the flags f come to by the one step of any other.
 abbrev pub ActsTo : ℕ → ℕ → Operands → List ℕ → List ℕ → ℕ → List ℕ → List ℕ → ℕ → ℕ → Type 0
 ActsTo p w o m r f m' r' p' f' = (length m' ≡ length m) × (leaving (num m') r' p' f' ≡ actsOf p w o (length m) (num m) r f)

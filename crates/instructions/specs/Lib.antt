@@ -1,4 +1,4 @@
--- The definitions that the contracts of `instructions` cite, in the order to read them, and then 01's examples of them.
+-- The definitions that the contracts of `instructions` cite, in the order to read them, and then examples of them.
 pub mod Meanings
 pub mod Table
 pub mod Words

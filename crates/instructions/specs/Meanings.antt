@@ -1,4 +1,4 @@
--- What an instruction means: what is made of its operands, and where that goes.
+-- What an instruction means: what is made of its operands, and where that goes. Sections 5 to 9 of docs/MACHINE.md.
 use mathlib.Core.Bool.{Bool, true, false, cond}
 use Prim.Native.Nat.{ℕ}
 use lib.Dec.{eqb, ltb}
@@ -13,7 +13,7 @@ use Rattle.instructions.specs.declared.table.Kind.{Kind}
 
 -- ---- what is made
 
--- 01, table: a word that sets no flags, and a word or a half word with those that it sets.
+-- §4.4: a word that raises no flags, and a word or a half word with those that it raises.
 abbrev pub plain : ℕ → Made
 plain w = record { item = w; flags = 0 }
 
@@ -25,39 +25,40 @@ ofHalf r = record { item = r .half; flags = r .flags }
 
 -- ---- what is compared
 
--- 01, Compare and branch: low 48 of m is low 48 of n.
+-- §6.2, §6.5: the low 48 of m and of n are the same.
 abbrev pub same : ℕ → ℕ → Bool
 same m n = eqb (low48 m) (low48 n)
 
--- 01, Compare and branch: "compared with low 48 of Z, signed, or unsigned": low 48 of m is less than low 48 of n.
+-- §6.2, §6.8: the low 48 of m are less than those of n, both as unsigned numbers or both as signed ones.
 unfoldable pub less : Bool → ℕ → ℕ → Bool
 less unsigned m n = cond unsigned (ltb (low48 m) (low48 n)) (ltZ (coefficientAt 47 m) (coefficientAt 47 n))
 
 -- ---- what an instruction does with it
 
--- 01, table: in one step, with registers and one byte or word of memory.
+-- §5.1: a register instruction: one step, with registers and one byte or word of memory.
 pub data Act : Type 0 where
   toT : (ℕ → ℕ → Made) → Act  -- T becomes what is made of R and S
   toHalfT : (ℕ → ℕ → Made) → Act  -- T, a half word, becomes it
-  loadsByte loadsWord : Act  -- T becomes what is at R plus S bytes, or words
-  storesByte storesWord : Act  -- what is there becomes T
+  loadsByte loadsWord : Act  -- §5.4, §5.20: T becomes what is at R plus S bytes, or words
+  storesByte storesWord : Act  -- §5.5, §5.21: what is there becomes the right byte of T, or T
 
--- 01, table, Vectors, Bit fields, Move: item by item.
+-- §10.2: a vector, bit or move instruction: item by item.
 pub data Work : Type 0 where
-  gathers : Rule → Work  -- a bit of T becomes one of R or S
-  eachOfAB : (ℕ → ℕ → Made) → Work  -- a word of C becomes what is made of those of A and B
-  eachOfA : (ℕ → Made) → Work  -- .. of A alone
-  halfOfA : (ℕ → Made) → Work  -- a half word of C becomes what is made of a word of A
-  moves : Work  -- a byte of C becomes one of A, or the literal
+  gathers : Rule → Work  -- §8.4, §8.5, §8.6: a bit of T becomes one of R or S
+  eachOfAB : (ℕ → ℕ → Made) → Work  -- §7.8, §7.9, §7.10: a word of C becomes what is made of those of A and B
+  eachOfA : (ℕ → Made) → Work  -- §7.11, §7.12, §7.13, §7.16: .. of A alone
+  halfOfA : (ℕ → Made) → Work  -- §7.14, §7.15: a half word of C becomes what is made of a word of A
+  moves : Work  -- §9.1: a byte of C becomes one of A, or the byte B itself
 
+-- §3.8: what a code means.
 pub data Meaning : Type 0 where
-  unlisted : Meaning  -- of a code that is not in the table
-  exits : Meaning
+  unlisted : Meaning  -- §12.9: of a code that is not in the table
+  exits : Meaning  -- §5.3: the run ends
   acts : Act → Meaning
-  branches : (Bool → ℕ → ℕ → Bool) → Meaning  -- C becomes A plus X; control goes to B plus Y half words where the sum compares so with Z
+  branches : (Bool → ℕ → ℕ → Bool) → Meaning  -- §6.1, §6.4: C becomes A plus X; P becomes B plus Y half words where the sum compares so with Z
   works : Work → Meaning
 
--- 01, Steps: "A vector, bit or move instruction".
+-- §10.2: it goes by items.
 abbrev pub goesByItems : Meaning → Bool
 goesByItems unlisted = false
 goesByItems exits = false
@@ -65,7 +66,7 @@ goesByItems (acts a) = false
 goesByItems (branches c) = false
 goesByItems (works k) = true
 
--- What the designators of such a code mean, as the code's own table says it.
+-- The kind that a row of the program's own table (src/table.rt) has for a meaning. What is not listed has no row, and its kind is never asked for.
 abbrev pub kindFor : Meaning → Kind
 kindFor unlisted = Kind.Exit
 kindFor exits = Kind.Exit

@@ -1,4 +1,8 @@
--- The parts of a word that name registers, and what these supply (01, "Instruction words").
+-- The parts of a word that name registers, and what these supply: sections 2 and 3 of docs/MACHINE.md. A word, with the first bit of each part:
+--
+--    |  F  |  G  |  X  |  A  |  Y  |  B  |  Z  |  C  |     formats 1, 3, C
+--    |  F  |  R  |  S  |  T  |                             formats 4, 7, A (S zero)
+--    0     8     16    24    32    40    48    56    64
 use mathlib.Core.Bool.{Bool, cond}
 use mathlib.Core.List.{List}
 use Prim.Native.Nat.{ℕ, _+_}
@@ -17,28 +21,28 @@ use Rattle.instructions.specs.declared.table.Found.the-variants.{At, Not
 use Rattle.instructions.specs.Meanings.{Meaning}
 use Rattle.instructions.specs.Table.{found, meaningOf}
 
--- "F G X A Y B Z C": F, the function
+-- §3.1: F, the code.
 abbrev pub codeIn : ℕ → ℕ
 codeIn w = field 64 0 8 w
 
--- the row of its function, if it is in the table
+-- §3.8: the row of its code, if it has one.
 abbrev pub foundIn : ℕ → Found
 foundIn w = found (codeIn w)
 
--- what its function means
+-- §3.8: what its code means.
 abbrev pub meaningIn : ℕ → Meaning
 meaningIn w = meaningOf (codeIn w)
 
--- what is asked of that row; `else` where there is none
+-- What is asked of a row; `else` where there is none.
 abbrev pub rowSays : {A : Type 0} → A → (Row → A) → Found → A
 rowSays else ask Nothing = else
 rowSays else ask (At r) = ask r
 
--- "F G X A Y B Z C": bit k of G, from the left
+-- §3.5: bit k of G, from the left, is one.
 abbrev pub gBit : ℕ → ℕ → Bool
 gBit k w = eqb (field 64 (8 + k) 1 w) 1
 
--- "F R S T": what the registers R, S and T of a 32-bit word supply; they have the places of G, X and A
+-- §3.2: what the registers R, S and T of a 32-bit word supply; they have the places of G, X and A.
 abbrev pub R : Operands → ℕ
 R o = o .g
 
@@ -48,11 +52,11 @@ S o = o .x
 abbrev pub T : Operands → ℕ
 T o = o .a
 
--- register t; number 00 "supplies 8000 000000000000", of which "low 48" is the zero that the other 00 with a meaning supply
+-- §3.6, §3.7: what designator t supplies: the word in that register, and for 00 a machine zero, whose low 48 are zero.
 unfoldable pub supplied : List ℕ → ℕ → ℕ
 supplied registers t = cond (eqb t 0) 0x8000_0000_0000_0000 (getD registers t 0)
 
--- "Designators have 8 bits. Formats 1, 3, C: F G X A Y B Z C, 64 bits. Formats 4, 7: F R S T, 32 bits": R, S, T have the places of G, X, A
+-- §3.6: what the seven designators of a word supply, all read before anything is written. Not every code uses all of them.
 unfoldable pub gathered : ℕ → List ℕ → Operands
 gathered w registers =
     record {
@@ -67,17 +71,17 @@ gathered w registers =
 
 -- ---- a register that places a field
 
--- "A field descriptor is a register: length in the left 16 bits, base address in the right 48"
+-- §2.5: the length and the base that a descriptor has.
 abbrev pub lengthIn : ℕ → ℕ
 lengthIn d = field 64 0 16 d
 
 abbrev pub baseIn : ℕ → BitAddress
 baseIn d = record { 0 = low48 d }
 
--- "at R plus S bytes", "plus X bytes", "plus S words": an index counts its unit; "formed addresses wrap at 2^48"
+-- §2.3, §2.4: the address so many units after the base in d, cut to 48 bits.
 abbrev pub indexed : U.Unit → ℕ → ℕ → BitAddress
 indexed u d index = record { 0 = formed d (inBits (unitShift u) index) }
 
--- "at R plus S bytes", "at R plus S words": the address of a load or a store
+-- §5.2: the address of a load or a store: R plus S bytes or words.
 abbrev pub addressIn : U.Unit → Operands → BitAddress
 addressIn u o = indexed u (R o) (S o)

@@ -1,4 +1,5 @@
--- A plan's items: how many there are, where each finds its sources and its control bit and puts its result, and what it makes. Assumes nothing.
+-- A plan's items: how many there are, where each finds its sources and its control bit and puts its result, and what it makes. Sections 7 to 9 of
+-- docs/MACHINE.md.
 use mathlib.Core.Bool.{cond}
 use Prim.Native.Nat.{ℕ, _+_, _*_}
 use lib.Dec.{ltb}
@@ -21,22 +22,22 @@ use Rattle.instructions.specs.Items.{Place, bits, fixed, Shape}
 
 -- ---- vectors
 
--- 01, Vectors: where item i of a source is; "G bit 3 (4) makes register A (B) itself every source item". The one definition of a source item.
+-- §7.2, §7.4: item i of a source is a word of its field, or the register itself. The one definition of a source item.
 abbrev pub sourceItem : Source → ℕ → Place
 sourceItem (Field a) i = bits (a + i * 64)
 sourceItem (Value v) i = fixed v
 
--- 01, Vectors: "Z names the control field's base, one bit an item; Z 00 means store all".
+-- §7.5: control bit i; without a control field it is a one.
 abbrev pub controlBit : Control → ℕ → Place
 controlBit Every i = fixed 1
 controlBit (Where z ones) i = bits (z + i)
 
--- 01, Vectors: "G bit 1: 0 stores where the control bit is one, 1 where it is zero".
+-- §7.5: the control bit of an item that is stored: a one, or with G bit 1 a zero.
 abbrev pub senseOf : Control → ℕ
 senseOf Every = 1
 senseOf (Where z ones) = cond ones 1 0
 
--- 01, Vectors: a vector of words, its result items w bits wide.
+-- §7.7: a vector of words, its result items w bits wide.
 abbrev pub vectorShape : Source → Source → Control → ℕ → ℕ → (ℕ → ℕ → Made) → Shape
 vectorShape a b z c w f =
     record {
@@ -52,7 +53,7 @@ vectorShape a b z c w f =
 
 -- ---- bits and bytes
 
--- 01, Bit fields, Move: items of w bits, each taken from one place; all are stored.
+-- §8.1, §9.1: items of w bits, each taken from one place, and all stored.
 abbrev pub takenShape : ℕ → ℕ → (ℕ → Place) → Shape
 takenShape c w from =
     record {
@@ -66,47 +67,47 @@ takenShape c w from =
       makes = λ x y. plain x;
     }
 
--- 01, Bit fields: "Where low 48 of S is zero, merge and mask take zeros for S".
+-- §8.2: bit d of S, or zero.
 abbrev pub secondBit : SecondBits → ℕ → Place
 secondBit (From b) d = bits (b + d)
 secondBit Zeros d = fixed 0
 
--- 01, Bit fields: the bit of R or of S that is taken.
+-- §8.1: where the bit of R or of S is that is taken.
 abbrev pub bitOf : ℕ → SecondBits → SourceBit → Place
 bitOf a b (ofR d) = bits (a + d)
 bitOf a b (ofS d) = secondBit b d
 
--- 01, Bit fields: which one each of the three takes for bit j of T.
+-- §8.4, §8.5, §8.6: which bit each of the three takes for bit j of T.
 abbrev pub takenBy : Rule → Runs → ℕ → SourceBit
 takenBy Compress t j = compressTakes t j
 takenBy Merge t j = mergeTakes t j
 takenBy Mask t j = maskTakes t j
 
--- 01, Move: byte i of the source; "When A is exhausted the literal byte B fills".
+-- §9.1, §9.3: byte i of the source, and past its length the fill byte.
 abbrev pub byteOf : ℕ → ℕ → ℕ → ℕ → Place
 byteOf a length fill i = cond (ltb i length) (bits (a + i * 8)) (fixed fill)
 
 -- ---- plans
 
--- 01, Vectors, Bit fields, Move: where the items of an instruction are. A vector's are so many bits wide, and are made of two source items.
+-- §10.2: where the items of an instruction are. A vector's are so many bits wide, and are made of two source items.
 pub data Plan : Type 0 where
   vectors : VectorPlan → ℕ → (ℕ → ℕ → Made) → Plan
   bitRuns : BitPlan → Plan
   byteMove : MovePlan → Plan
 
--- 01, Vectors, Bit fields, Move: the items of a plan.
+-- §7.7, §8.1, §9.1: the items of a plan.
 unfoldable pub shapeOf : Plan → Shape
 shapeOf (vectors v w f) = vectorShape (v .first) (v .second) (v .control) (v .result) w f
 shapeOf (bitRuns b) = takenShape (b .result) 1 (λ j. bitOf (b .first) (b .second) (takenBy (b .rule) (b .runs) j))
 shapeOf (byteMove v) = takenShape (v .result) 8 (byteOf (v .source) (v .length) (v .fill))
 
--- 01, Bit fields: "Compress with r or n zero, and the others with r, s or n zero, do nothing".
+-- §8.1: how many items each of the three has.
 abbrev pub bitItems : Rule → Runs → ℕ
 bitItems Compress t = compressItems t
 bitItems Merge t = mergeItems t
 bitItems Mask t = mergeItems t
 
--- 01, Vectors: "The length of C governs"; Steps: "one step for each result item".
+-- §7.1, §8.1, §9.1: how many items a plan has.
 unfoldable pub itemsOf : Plan → ℕ
 itemsOf (vectors v w f) = v .items
 itemsOf (bitRuns b) = bitItems (b .rule) (b .runs)

@@ -1,4 +1,5 @@
--- The plan of a vector, bit or move instruction, from its word and operands alone: the places of its fields, counted in bits from the start of memory. Assumes nothing.
+-- The plan of a vector, bit or move instruction, from its word and operands alone, with places counted in bits from the start of memory: sections 7
+-- to 9 of docs/MACHINE.md.
 use mathlib.Core.Bool.{Bool, true, false, cond, not, _||_}
 use Prim.Native.Nat.{ℕ, _-_}
 use lib.Dec.{eqb}
@@ -22,19 +23,19 @@ use Rattle.instructions.specs.Plan.{Plan, vectors, bitRuns, byteMove}
 use Rattle.instructions.specs.Layout.{runsOf}
 use Rattle.fields.specs.declared.extents.Unit.the-variants.{Byte}
 
--- The bits of memory left of an address.
+-- §1.4: the bits of memory left of an address.
 abbrev pub placeOf : ℕ → ℕ
 placeOf a = a - origin
 
--- 01, Vectors: "G bit 3 (4) makes register A (B) itself every source item".
+-- §7.3, §7.4: a source: words from its base on, or the register itself.
 abbrev pub sourceIn : Bool → ℕ → Source
 sourceIn broadcast d = cond broadcast (Value d) (Field (placeOf (low48 d)))
 
--- 01, Vectors: "Z names the control field's base"; "Z 00 means store all"; "G bit 1: 0 stores where the control bit is one, 1 where it is zero".
+-- §7.5: no control field with Z 00, else its base and which control bit stores.
 abbrev pub controlIn : ℕ → ℕ → Control
 controlIn w z = cond (eqb (field 64 48 8 w) 0) Every (Where (placeOf (low48 z)) (not (gBit 1 w)))
 
--- 01, Vectors: of a word, whether B is no source, and the operands.
+-- §7.1: a vector of its word and operands; `alone` where A is the only source.
 abbrev pub vectorIn : Bool → ℕ → Operands → VectorPlan
 vectorIn alone w o =
     record {
@@ -45,11 +46,11 @@ vectorIn alone w o =
       items = lengthIn (o .c);
     }
 
--- 01, Bit fields: "Where low 48 of S is zero, merge and mask take zeros for S".
+-- §8.2: S of merge and mask: its base, or zeros. (Compress takes no bit of it.)
 abbrev pub secondIn : ℕ → SecondBits
 secondIn d = cond (eqb (low48 d) 0) Zeros (From (placeOf (low48 d)))
 
--- 01, Bit fields: "r, s, n are the lengths in R, S, T".
+-- §8.1: a bit instruction of its operands.
 abbrev pub bitsIn : Rule → Operands → BitPlan
 bitsIn rule o =
     record {
@@ -60,7 +61,7 @@ bitsIn rule o =
       runs = runsOf o;
     }
 
--- 01, Move: "Source A plus X bytes, result C plus Z bytes"; "the literal byte B".
+-- §9.2, §9.3: a move of its word and operands.
 abbrev pub moveIn : ℕ → Operands → MovePlan
 moveIn w o =
     record {
@@ -71,7 +72,8 @@ moveIn w o =
       items = lengthIn (o .c);
     }
 
--- The plan of what goes by items. 01, Vectors: B is a source "for 83, 87, 8A" alone; table, 96, 97: "C items are half words".
+-- §10.2: the plan of what goes by items. B is a source where items are made of A and B (§7.8, §7.9, §7.10), and C's items are words but for §7.14 and
+-- §7.15.
 abbrev pub planBy : Work → ℕ → Operands → Plan
 planBy (gathers rule) w o = bitRuns (bitsIn rule o)
 planBy (eachOfAB f) w o = vectors (vectorIn false w o) 64 f
@@ -79,10 +81,11 @@ planBy (eachOfA f) w o = vectors (vectorIn true w o) 64 (λ x y. f x)
 planBy (halfOfA f) w o = vectors (vectorIn true w o) 32 (λ x y. f x)
 planBy moves w o = byteMove (moveIn w o)
 
--- The plan of a word, by what its function means. What takes one step is asked for none: items of no bits.
+-- A plan for what does not go by items, where none is ever asked for: its items have no bits.
 abbrev pub idle : ℕ → Operands → Plan
 idle w o = vectors (vectorIn true w o) 0 (λ x y. plain 0)
 
+-- §10.2: the plan of a word, by what its code means.
 unfoldable pub planIn : Meaning → ℕ → Operands → Plan
 planIn unlisted w o = idle w o
 planIn exits w o = idle w o

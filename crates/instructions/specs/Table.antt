@@ -1,4 +1,5 @@
 -- The one table of function codes: a line for each, with its format, its G bits, its designators and its meaning; and how a code is looked up.
+-- Section 3 of docs/MACHINE.md; what the lines say is in its sections 5 to 9.
 use mathlib.Core.Bool.{Bool, false, true, not, cond, _||_}
 use mathlib.Core.List.{List, [], _∷_}
 use Prim.Native.Nat.{ℕ, zero, suc, _+_, _-_, _*_, _^_}
@@ -18,7 +19,7 @@ use Rattle.instructions.specs.Meanings.{plain, ofWord, ofHalf, same, les
 
 -- ---- places in a word
 
--- 01, Instruction words: the places of the designators, F R S T and F G X A Y B Z C, each of 8 bits.
+-- §3.2: the places of R, S and T in a word, a byte each.
 abbrev pub atR : ℕ
 atR = 0x00FF_0000_0000_0000
 
@@ -28,10 +29,11 @@ atS = 0x0000_FF00_0000_0000
 abbrev pub atT : ℕ
 atT = 0x0000_00FF_0000_0000
 
--- 01, The machine: half word t is a half of register t/2, so 00 and 01 are the same register.
+-- §3.12: T where it names a half word: its last bit only tells which half of a register.
 abbrev pub atHalfT : ℕ
 atHalfT = 0x0000_00FE_0000_0000
 
+-- §3.3: the places of X, A, Y, B and C; the table asks nothing of Z.
 abbrev pub atX : ℕ
 atX = 0x0000_FF00_0000_0000
 
@@ -47,13 +49,13 @@ atB = 0x0000_0000_00FF_0000
 abbrev pub atC : ℕ
 atC = 0x0000_0000_0000_00FF
 
--- 01, Vectors: "G bit 1": counted from the left of G.
+-- §3.5: G bit k, from the left, as a number of 8 bits.
 abbrev pub G : ℕ → ℕ
 G k = 2 ^ (7 - k)
 
 -- ---- lines
 
--- 01, Forms to follow: "code, format, allowed G bits, required-zero designators"; and which designators may not be 00, and what the code means.
+-- §3.8: a code, its format, the G bits that may be one, the designators that must be zero, those in which 00 has no meaning, and what the code means.
 pub record Line : Type 0 where
   pub code : ℕ
   pub format : ℕ
@@ -62,42 +64,47 @@ pub record Line : Type 0 where
   pub named : ℕ
   pub means : Meaning
 
+-- A line of its six parts.
 abbrev pub lineOf : ℕ → ℕ → ℕ → ℕ → ℕ → Meaning → Line
 lineOf k f g z n m = record { code = k; format = f; allowed = g; zeros = z; named = n; means = m }
 
--- 01, table, format 4: T of R and S.
+-- §5.6, §5.7, §5.8, §5.9, §5.10, §5.18: format 4: T becomes what f makes of R and S.
 abbrev pub threeRegisters : ℕ → (ℕ → ℕ → ℕ) → Line
 threeRegisters k f = lineOf k 0x4 0 0 (atR + atS + atT) (acts (toT (λ r s. plain (f r s))))
 
--- 01, table, format A: T of R, "eight zero bits" in the place of S; T a half word.
+-- §5.11, §5.12, §5.13, §5.16, §5.17, §5.19: format A: T becomes what f makes of R, and the place of S is zero.
 abbrev pub twoRegisters : ℕ → (ℕ → Made) → Line
 twoRegisters k f = lineOf k 0xA 0 atS (atR + atT) (acts (toT (λ r s. f r)))
 
+-- §5.14, §5.15: the same, T being a half word.
 abbrev pub twoRegistersHalf : ℕ → (ℕ → Made) → Line
 twoRegistersHalf k f = lineOf k 0xA 0 atS (atR + atHalfT) (acts (toHalfT (λ r s. f r)))
 
--- 01, table, format 7: T and an address, R plus S; bit fields R, S, T.
+-- §5.4, §5.5, §5.20, §5.21: format 7: T, and an address of R and S.
 abbrev pub addressed : ℕ → Act → Line
 addressed k a = lineOf k 0x7 0 0 (atR + atS + atT) (acts a)
 
+-- §8.4, §8.5, §8.6: format 7: R, S and T are descriptors of bits.
 abbrev pub bitFields : ℕ → Rule → Line
 bitFields k rule = lineOf k 0x7 0 0 (atR + atS + atT) (works (gathers rule))
 
--- 01, Vectors: "G bits allowed: 1, 3, 4 for 83, 87, 8A; 1, 3 for 90-92, 98; 1 for 96, 97. X and Y are zero (house); so is B where only A is used."
+-- §7.8, §7.9, §7.10: format 1, of A and B: G bits 1, 3 and 4; X and Y are zero.
 abbrev pub vectorTwo : ℕ → (ℕ → ℕ → ℕ) → Line
 vectorTwo k f = lineOf k 0x1 (G 1 + G 3 + G 4) (atX + atY) (atA + atB + atC) (works (eachOfAB (λ a b. plain (f a b))))
 
+-- §7.11, §7.12, §7.13, §7.16: format 1, of A alone: G bits 1 and 3; B is zero too.
 abbrev pub vectorOne : ℕ → (ℕ → Made) → Line
 vectorOne k f = lineOf k 0x1 (G 1 + G 3) (atX + atY + atB) (atA + atC) (works (eachOfA f))
 
+-- §7.14, §7.15: the same with half words in C: G bit 1.
 abbrev pub vectorHalf : ℕ → (ℕ → Made) → Line
 vectorHalf k f = lineOf k 0x1 (G 1) (atX + atY + atB) (atA + atC) (works (halfOfA f))
 
--- 01, Compare and branch: "unsigned with G bit 4; other G bits zero (house)"; 00 has a meaning for A, X, Y and Z.
+-- §6.5, §6.6, §6.7, §6.8, §6.9, §6.10: format C: G bit 4; 00 has a meaning in A, X, Y and Z.
 abbrev pub addBranch : ℕ → (Bool → ℕ → ℕ → Bool) → Line
 addBranch k c = lineOf k 0xC (G 4) 0 (atB + atC) (branches c)
 
--- 01, the table.
+-- §3.8: the table, a line for each of the 38 codes. The builders above name the rules; code 09 is §5.3, and code F8 is §9.1.
 abbrev pub table : List Line
 table =
     lineOf 0x09 0x4 0 (atR + atS + atT) 0 exits ∷  -- exit
@@ -140,11 +147,13 @@ table =
     lineOf 0xF8 0x3 0 atY (atA + atC) (works moves) ∷  -- move bytes left
     []
 
--- ---- rows: what the code's own table has of a line
+-- ---- rows: what the program's own table (src/table.rt) has of a line
 
+-- A line with its kind in the place of its meaning.
 abbrev pub rowOf : Line → Row
 rowOf l = (l .code, l .format, l .allowed, l .zeros, l .named, kindFor (l .means))
 
+-- The parts of a row behind its code: format, G bits that may be one, designators that must be zero, designators in which 00 has no meaning, kind.
 abbrev pub formatOf : Row → ℕ
 formatOf r = r .1
 
@@ -160,7 +169,7 @@ namedOf r = r .4
 abbrev pub kindOf : Row → Kind
 kindOf r = r .5
 
--- whether the instructions of a kind go by items
+-- §10.2: the instructions of a kind go by items.
 abbrev pub hasItems : Kind → Bool
 hasItems Kind.Exit = false
 hasItems Kind.Register = false
@@ -177,38 +186,38 @@ hasItems Kind.OneSource = true
 hasItems Kind.HalfResult = true
 hasItems Kind.Move = true
 
--- 01, Instruction words: formats 1, 3 and C have 64 bits and a G, formats 4, 7 and A have 32 bits.
+-- §3.1: the words of a format have 64 bits, and a G.
 abbrev pub long : ℕ → Bool
 long f = eqb f 0x1 || eqb f 0x3 || eqb f 0xC
 
--- 01, table: format 1 is that of the vector instructions.
+-- §3.10: the format of vectors.
 abbrev pub vectorFormat : ℕ → Bool
 vectorFormat f = eqb f 0x1
 
--- 01, 6: the bits that are to be zero: designators, and the G bits that are not allowed or, in a 32-bit word, the right half.
+-- §3.9, §3.4: the bits that must be zero: designators, and the G bits that are not allowed or, in a 32-bit word, the right half.
 abbrev pub zeroBits : Row → ℕ
 zeroBits r = bitOr (zeroOf r) (cond (long (formatOf r)) ((0xFF - allowedOf r) * 2 ^ 48) 0xFFFF_FFFF)
 
--- ---- looked up
+-- ---- how a code is looked up
 
--- what is said of the first x that has the code k; `none` where no x has it
+-- What is said of the first x that has the code k; `none` where no x has it.
 abbrev pub lookUp : {A B : Type 0} → (A → ℕ) → (A → B) → B → ℕ → List A → B
 lookUp code says none k [] = none
 lookUp code says none k (x ∷ xs) = cond (eqb k (code x)) (says x) (lookUp code says none k xs)
 
--- the row of the first line with the code k
+-- The row of the first line with the code k.
 abbrev pub find : ℕ → List Line → Found
 find k ls = lookUp (λ l. l .code) (λ l. At (rowOf l)) Nothing k ls
 
--- 01, 5: the row of a function, or that it is not in the table.
+-- §3.8, §12.9: the row of a code, or that it has none.
 unfoldable pub found : ℕ → Found
 found k = find k table
 
--- 01, table: what a function means.
+-- §3.8: what a code means.
 unfoldable pub meaningOf : ℕ → Meaning
 meaningOf k = lookUp (λ l. l .code) (λ l. l .means) unlisted k table
 
--- the row at a place of the table
+-- The row at a place of some lines, and at a place of the table.
 abbrev pub rowIn : ℕ → List Line → Found
 rowIn i [] = Nothing
 rowIn zero (l ∷ ls) = At (rowOf l)
