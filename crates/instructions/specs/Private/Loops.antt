@@ -1,4 +1,5 @@
--- What the loops promise, by the plain numbers that they work with. Only private functions promise in these terms. Assumes nothing.
+-- What the loops promise, by the plain numbers that they work with. Places in memory are counted in bits from its start, or in bytes where it says
+-- so.
 use mathlib.Core.Path.{_≡_}
 use mathlib.Core.Bool.{Bool, true, false, cond}
 use mathlib.Core.List.{List}
@@ -34,14 +35,14 @@ use Rattle.instructions.specs.Table.{meaningOf}
 use Rattle.instructions.specs.Items.{Place, bits, fixed, Shape, worked, turns}
 use Rattle.instructions.specs.Plan.{vectorShape, takenShape, byteOf}
 
--- 01, Steps: m' and f' are what the lent bytes m and the flags f come to by k items from item `from` on.
+-- m' and f' are what the lent bytes m and the flags f come to by k items from item `from` on.
 pub record Turned (s : Shape) (from k : ℕ) (m : List ℕ) (f : ℕ) (m' : List ℕ) (f' : ℕ) : Type 0 where
   pub as-long : length m' ≡ length m
   pub does : worked (num m') f' ≡ turns s (size m) from k (worked (num m) f)
 
 -- ---- vectors
 
--- a source by plain numbers, and back
+-- A source by plain numbers, its first byte or its value, and back: `held` says that it is a field.
 abbrev pub laneOf : Source → Lane
 laneOf (Field a) = record { field = true; byte = a / 8; value = 0 }
 laneOf (Value v) = record { field = false; byte = 0; value = v }
@@ -49,7 +50,7 @@ laneOf (Value v) = record { field = false; byte = 0; value = v }
 abbrev pub sourceBy : Bool → Lane → Source
 sourceBy held a = cond held (Field (8 * a .byte)) (Value (a .value))
 
--- a control field by plain numbers, and back
+-- A control field by plain numbers, its first bit and the control bit of an item that is stored, and back: `some` says that there is one.
 abbrev pub gatingOf : Control → Gating
 gatingOf Every = record { some = false; bit = 0; sense = 1 }
 gatingOf (Where z ones) = record { some = true; bit = z; sense = cond ones 1 0 }
@@ -57,20 +58,23 @@ gatingOf (Where z ones) = record { some = true; bit = z; sense = cond ones 1 0 }
 abbrev pub controlBy : Bool → Gating → Control
 controlBy some z = cond some (Where (z .bit) (eqb (z .sense) 1)) Every
 
--- a vector's plan by plain numbers, and back
+-- A vector's plan by plain numbers.
 unfoldable pub lanesFor : VectorPlan → Lanes
 lanesFor v = record { a = laneOf (v .first); b = laneOf (v .second); z = gatingOf (v .control); c = v .result / 8 }
 
+-- And back: the items of a vector by plain numbers. g makes an item of w bits; fa, fb and fz say whether A, B and Z are fields.
 abbrev pub laned : (ℕ → ℕ → Made) → ℕ → Bool → Bool → Bool → Lane → Lane → Gating → ℕ → Shape
 laned g w fa fb fz a b z c = vectorShape (sourceBy fa a) (sourceBy fb b) (controlBy fz z) (8 * c) w g
 
+-- The same with what the plain numbers themselves say of A, B and Z; and with B no field, for a vector of A alone.
 abbrev pub lanesOf : (ℕ → ℕ → Made) → ℕ → Lanes → Shape
 lanesOf g w at = laned g w (at .a .field) (at .b .field) (at .z .some) (at .a) (at .b) (at .z) (at .c)
 
 abbrev pub lanesAlone : (ℕ → ℕ → Made) → ℕ → Lanes → Shape
 lanesAlone g w at = laned g w (at .a .field) false (at .z .some) (at .a) (at .b) (at .z) (at .c)
 
--- n items of k bytes at byte c, their sources and their control bits lie in m
+-- n items of k bytes from byte c on, their sources and their control bits lie in m. m has at most 65,536 bytes (§1.4); n is at most 2^16, above every
+-- length.
 pub record InReach (m : List ℕ) (fa fb fz : Bool) (a b : Lane) (z : Gating) (c k n : ℕ) : Type 0 where
   pub small : length m ≤ 65536
   pub few : n ≤ 65536
@@ -80,13 +84,14 @@ pub record InReach (m : List ℕ) (fa fb fz : Bool) (a b : Lane) (z : Gating) (c
   pub upto-z : fz ≡ true → (i : ℕ) → i < n → z .bit + i < size m
   pub upto-c : (i : ℕ) → i < n → c + i * k + k ≤ length m
 
+-- The same of the plain numbers of a vector, and of those of a vector of A alone.
 abbrev pub LanesReach : List ℕ → Lanes → ℕ → ℕ → Type 0
 LanesReach m at k n = InReach m (at .a .field) (at .b .field) (at .z .some) (at .a) (at .b) (at .z) (at .c) k n
 
 abbrev pub AloneReach : List ℕ → Lanes → ℕ → ℕ → Type 0
 AloneReach m at k n = InReach m (at .a .field) false (at .z .some) (at .a) (at .b) (at .z) (at .c) k n
 
--- what the vector of a function makes of two words, and how wide its items are; of no other function is either asked
+-- What a vector of this meaning makes of two words, and how many bits its items have; of no other meaning is either asked.
 abbrev pub makesBy : Meaning → ℕ → ℕ → Made
 makesBy unlisted x y = plain 0
 makesBy exits x y = plain 0
@@ -109,7 +114,7 @@ widthBy (works (eachOfA f)) = 64
 widthBy (works (halfOfA f)) = 32
 widthBy (works moves) = 0
 
--- whether it is made of A alone
+-- Whether it is made of A alone.
 abbrev pub singleBy : Meaning → Bool
 singleBy unlisted = false
 singleBy exits = false
@@ -121,6 +126,7 @@ singleBy (works (eachOfA f)) = true
 singleBy (works (halfOfA f)) = true
 singleBy (works moves) = false
 
+-- The three of a code, by what it means.
 unfoldable pub makesAt : ℕ → ℕ → ℕ → Made
 makesAt code = makesBy (meaningOf code)
 
@@ -130,27 +136,29 @@ widthAt code = widthBy (meaningOf code)
 unfoldable pub singleAt : ℕ → Bool
 singleAt code = singleBy (meaningOf code)
 
--- a function code of a vector, and lanes with a field for B only where B is a source
+-- The code is that of a vector, and there is a field for B only where B is a source.
 pub record Suited (code : ℕ) (at : Lanes) : Type 0 where
   pub some : 0 < widthAt code
   pub alone : singleAt code ≡ true → at .b .field ≡ false
 
--- go is 1 where the control bit has the sense asked, else 0
+-- go is 1 where the control bit is the one that is asked for, else 0.
 pub record Gate (go bit sense : ℕ) : Type 0 where
   pub a-bit : go < 2
   pub tells : eqb go 1 ≡ eqb bit sense
 
--- m' is m with the new item, or the old one, in the w bits at a, and f' is f with the flags of a new one
+-- m' is m with the new item, where `go` says so, or the old one in the w bits at a, and f' is f with the flags of a new one.
 pub record Settled (m : List ℕ) (a w : ℕ) (go : Bool) (new : Made) (f : ℕ) (m' : List ℕ) (f' : ℕ) : Type 0 where
   pub kept : Kept m a w (cond go (new .item % 2 ^ w) (field (size m) a w (num m))) m'
   pub sets : f' ≡ bitOr f (cond go (new .flags) 0)
 
--- as Turned, of a shape that sets no flags: whatever they are
+-- As `Turned`, of items that raise no flags: the flags stay, whatever they are.
 abbrev pub TurnedQuietly : Shape → ℕ → ℕ → List ℕ → List ℕ → Type 0
 TurnedQuietly s from k m m' = (f : ℕ) → Turned s from k m f m' f
 
--- ---- move: n bytes are worked, of which the source has some
+-- ---- move
 
+-- n bytes at bit c are worked, for which a source of r bytes at bit a is read: as many of its bytes as are wanted, or all. Both begin with a byte and
+-- lie in m.
 pub record ReadyBytes (m : List ℕ) (a r c n : ℕ) : Type 0 where
   pub small : length m ≤ 65536
   pub whole-a : 0 < r → a % 8 ≡ 0
@@ -160,7 +168,7 @@ pub record ReadyBytes (m : List ℕ) (a r c n : ℕ) : Type 0 where
 
 -- ---- bits
 
--- n bits at a lie in m, which is whole words
+-- n bits at a, 1 to 64 of them, lie in m, which is whole words.
 pub record Room (m : List ℕ) (a n : ℕ) : Type 0 where
   pub small : length m ≤ 65536
   pub words : length m % 8 ≡ 0
@@ -168,51 +176,55 @@ pub record Room (m : List ℕ) (a n : ℕ) : Type 0 where
   pub few : n ≤ 64
   pub upto : a + n ≤ size m
 
+-- Where R and S of a bit instruction begin; S may be zeros.
 abbrev pub sidesOf : ℕ → SecondBits → Sides
 sidesOf r (From s) = record { r = r; some = true; s = s }
 sidesOf r Zeros = record { r = r; some = false; s = 0 }
 
+-- The period of a rule: so many bits of T, the head of them from R. R goes on by `first` in a period, S by `second`. Bit q of a period is bit q of
+-- R's part or, past the head, bit q - skipped of S's.
 abbrev pub periodOf : Rule → Runs → Period
 periodOf Compress t = record { bits = t .r; head = t .r; first = t .r + t .s; second = 0; skipped = 0 }
 periodOf Merge t = record { bits = t .r + t .s; head = t .r; first = t .r; second = t .s; skipped = t .r }
 periodOf Mask t = record { bits = t .r + t .s; head = t .r; first = t .r + t .s; second = t .r + t .s; skipped = 0 }
 
--- where item i finds its cursor
+-- The cursor at item i: its place in the period, and where R's and S's parts of that period begin.
 unfoldable pub cursorAt : Sides → Period → ℕ → Cursor
 cursorAt d p i = record { place = i % p .bits; r = d .r + i / p .bits * p .first; s = d .s + i / p .bits * p .second }
 
--- n bits on
+-- The cursor n bits on, no further than to the end of its period.
 abbrev pub cursorOn : Cursor → Period → ℕ → Cursor
 cursorOn u p n =
     cond (eqb (u .place + n) (p .bits))
     (record { place = 0; r = u .r + p .first; s = u .s + p .second })
     (record { place = u .place + n; r = u .r; s = u .s })
 
--- the bits left of the run that it stands in
+-- How many bits are left of the run, of R or of S, that the cursor stands in.
 abbrev pub leftAt : Cursor → Period → ℕ
 leftAt u p = cond (ltb (u .place) (p .head)) (p .head - u .place) (p .bits - u .place)
 
--- where it stands
+-- Where the cursor stands: a bit of R, a bit of S, or a zero for S.
 abbrev pub standsAt : Bool → Period → Cursor → Place
 standsAt some p u = cond (ltb (u .place) (p .head)) (bits (u .r + u .place)) (cond some (bits (u .s + (u .place - p .skipped))) (fixed 0))
 
--- n bits at a place have room; a value needs none
+-- n bits at a place have room; a value needs none.
 abbrev pub RoomFor : List ℕ → ℕ → Place → Type 0
 RoomFor m n (bits a) = Room m a n
 RoomFor m n (fixed v) = Unit {0}
 
--- item i, by its cursor
+-- What item i takes, by its cursor.
 abbrev pub wovenAt : Sides → Period → ℕ → Place
 wovenAt d p i = standsAt (d .some) p (cursorAt d p i)
 
--- the items of a bit instruction by its sides and period, and those of a move
+-- The items of a bit instruction by its sides and period, and those of a move.
 abbrev pub gatherShape : BitPlan → Shape
 gatherShape b = takenShape (b .result) 1 (wovenAt (sidesOf (b .first) (b .second)) (periodOf (b .rule) (b .runs)))
 
 abbrev pub moveShape : MovePlan → Shape
 moveShape v = takenShape (v .result) 8 (byteOf (v .source) (v .length) (v .fill))
 
--- a period is of two parts, and not too long
+-- A period has R's part and then S's, and none of its numbers is too large: each is 0, r, s or r + s, two lengths of at most 65,535 each, so at most
+-- 131,070 and below 131,072, which is 2^17.
 pub record Paced (p : Period) : Type 0 where
   pub part-r : p .head ≤ p .bits
   pub skips : p .skipped ≤ p .head
@@ -220,7 +232,8 @@ pub record Paced (p : Period) : Type 0 where
   pub short-r : p .first ≤ 131072
   pub short-s : p .second ≤ 131072
 
--- n items of bits are worked. Each finds its bit in memory and apart from all of the result.
+-- n items of bits are worked, to c and the bits behind it, in a memory of whole words. R and S begin below 2^48, as every address does. Each item
+-- finds its bit in memory and apart from all of the result.
 pub record ReadyBits (m : List ℕ) (d : Sides) (p : Period) (c n : ℕ) : Type 0 where
   pub small : length m ≤ 65536
   pub words : length m % 8 ≡ 0
@@ -230,7 +243,7 @@ pub record ReadyBits (m : List ℕ) (d : Sides) (p : Period) (c n : ℕ) : Type 
   pub near-s : d .s < 2 ^ 48
   pub clear : (i a : ℕ) → i < n → wovenAt d p i ≡ bits a → (a < size m) × Apart c n a 1
 
--- t periods at once, where each part of them fits a word
+-- t periods may be worked at once: what they make, and what they read of R and of S, fits a word each, and one period has at most half a word.
 pub record Chunk (p : Period) (t : ℕ) : Type 0 where
   pub some : 0 < t
   pub part : 0 < p .head
@@ -241,30 +254,31 @@ pub record Chunk (p : Period) (t : ℕ) : Type 0 where
   pub span-r : (t - 1) * p .first + p .head ≤ 64
   pub span-s : (t - 1) * p .second + (p .bits - p .skipped) ≤ 64
 
--- k of t pieces of x, each of n bits and `step` bits after the one before it, the last at the right end: each at the right end of `gap` bits
+-- The first k of t pieces of x, each of n bits and `step` bits after the one before it, the last at the right end of x: each at the right end of
+-- `gap` bits.
 abbrev pub spreadOf : ℕ → ℕ → ℕ → ℕ → ℕ → ℕ → ℕ
 spreadOf x step n gap t zero = 0
 spreadOf x step n gap t (suc k) = spreadOf x step n gap t k * 2 ^ gap + get ((t - suc k) * step) n x
 
--- ones where the pieces of R go in t periods, and where those of S go
+-- Ones at the right end of each of t periods, as many as a period has bits of R, and as many as it has of S.
 abbrev pub frontOf : Period → ℕ → ℕ
 frontOf p t = spreadOf (2 ^ p .head - 1) 0 (p .head) (p .bits) t t
 
 abbrev pub backOf : Period → ℕ → ℕ
 backOf p t = spreadOf (2 ^ (p .bits - p .head) - 1) 0 (p .bits - p .head) (p .bits) t t
 
--- S has a part in the periods
+-- S has a part in the periods, and is not zeros.
 abbrev pub bothIn : Bool → Period → Bool
 bothIn some p = cond (ltb (p .head) (p .bits)) some false
 
--- the bits of R and of S from their first in t periods to their last
+-- The bits of R, and of S, from where its part of the first of t periods begins to the last that they read.
 abbrev pub spanR : Period → ℕ → ℕ
 spanR p t = (t - 1) * p .first + p .head
 
 abbrev pub spanS : Period → ℕ → ℕ
 spanS p t = (t - 1) * p .second + (p .bits - p .skipped)
 
--- t periods, R's part from bit r on and S's from bit s on
+-- The bits of t periods, of a memory of L bits that is the number x: R's parts from bit r on, and S's, if both have one, from bit s on.
 abbrev pub periodsOf : ℕ → Bool → Period → ℕ → ℕ → ℕ → ℕ → ℕ
 periodsOf L both p r s t x =
     spreadOf (field L r (spanR p t) x) (p .first) (p .head) (p .bits) t t * 2 ^ (p .bits - p .head)
