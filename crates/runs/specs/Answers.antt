@@ -1,4 +1,4 @@
--- 01, What a call says: the number of each answer, and the answers that an instruction's checks can give.
+-- The number of each answer, and the answers that an instruction's checks can give: section 12 of docs/MACHINE.md.
 use Prim.Native.Nat.{ℕ}
 use mathlib.Core.Path.{_≡_}
 use mathlib.Core.Bool.{Bool}
@@ -12,7 +12,7 @@ use Rattle.runs.specs.declared.answers.Answer.the-variants.{Paused, Exit
 use Rattle.runs.specs.declared.answers.Said.{Said}
 use Rattle.runs.specs.declared.answers.Said.the-variants.{Ends, Allows}
 
--- 01, What a call says: "No."; 5, 6 and 7 are those of the words.
+-- §12.4 to §12.15: the number of each answer, in the order of the rules; refusals 5, 6 and 7 are those of a word.
 abbrev pub numberOf : Answer → ℕ
 numberOf Paused = 0
 numberOf Exit = 1
@@ -27,18 +27,18 @@ numberOf Short = 9
 numberOf Outside = 10
 numberOf Shared = 11
 
--- 01, What a call says: 1 and 4 to 11, the answers that an instruction's checks can give.
+-- §12.2: the exit and refusals 4 to 11, the answers that the checks of a word can give.
 abbrev pub refusals : List Answer
 refusals = Exit ∷ NotThere ∷ NotListed ∷ NotZero ∷ Designator ∷ Misaligned ∷ Short ∷ Outside ∷ Shared ∷ []
 
--- What a number that the checks gave says: the answer that has it ends the run. A number of none of them ends nothing, and the step is taken.
+-- What a number that the checks gave says: the answer that has it ends the run. A number of none of them, such as 0, ends nothing, and the step is taken.
 unfoldable pub saidOf : ℕ → Said
 saidOf n = lookUp numberOf (λ a. Ends a) Allows n refusals
 
--- 01, What a call says: 0 is the answer of a run that goes on, given more budget.
+-- §12.4: answer 0, with which a run goes on where there is more budget.
 abbrev pub paused : Answer → Bool
 paused a = eqb (numberOf a) 0
 
--- 01, What a call says: the number of one of `refusals`.
+-- v is the number of one of `refusals`.
 abbrev pub OfChecks : ℕ → Type 0
 OfChecks v = (a : Answer) × (saidOf v ≡ Ends a)

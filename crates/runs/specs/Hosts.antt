@@ -1,16 +1,15 @@
--- What a call leaves to a host that lends its record.
+-- What a call leaves to a host that lends its record: section 12 of docs/MACHINE.md.
 use Prim.Native.Nat.{ℕ, _+_, _*_, _^_}
 use Rattle.runs.specs.declared.answers.Answer.{Answer}
 use Rattle.runs.specs.Answers.{numberOf}
 use Rattle.runs.specs.Steps.{State}
 use Rattle.runs.specs.Calls.{Called}
 
--- 01, What a call says: "No." and "Steps" as one number of 64 bits, the first in the left 32, the other in the right 32 (decision 63).
+-- §12.1: the answer's number and the steps as one number of 64 bits, 32 for each, the answer's leftmost.
 unfoldable pub packed : Answer → ℕ → ℕ
 packed a steps = numberOf a * 2 ^ 32 + steps
 
--- 01, The machine that the job sees: "in the outer call the record is lent to the run and holds the new state afterwards". The state, its record in it, and the
--- result.
+-- §12.1: what such a call leaves: the state, the new record in it, and the result; and these put together.
 pub record LentCall : Type 0 where
   pub state : State
   pub result : ℕ
@@ -18,6 +17,6 @@ pub record LentCall : Type 0 where
 abbrev pub lent : State → ℕ → LentCall
 lent s r = record { state = s; result = r }
 
--- What a call hands to that host.
+-- §12.1: what a call hands to that host.
 abbrev pub handed : Called → LentCall
 handed c = lent (c .state) (packed (c .answer) (c .steps))

@@ -1,4 +1,4 @@
--- The definitions that the contracts and theorems of `runs` cite, in the order to read them. `Inner` is for contracts of private functions alone.
+-- The definitions that the contracts and theorems of `runs` cite, in the order to read them. `Private` is for contracts of private functions alone.
 pub mod Answers
 pub mod Records
 pub mod Steps

@@ -1,4 +1,4 @@
--- The record, and when it is possible.
+-- The record, and when it is possible: section 11 of docs/MACHINE.md.
 use mathlib.Core.Bool.{Bool, _&&_, _||_}
 use mathlib.Core.List.{List}
 use Prim.Native.Nat.{ℕ, _%_, _^_}
@@ -10,20 +10,19 @@ use Rattle.instructions.specs.Verdict.{verdictOf}
 use Rattle.instructions.specs.Instruction.{byItems, countOf}
 use Rattle.runs.specs.declared.records.Record.{Record}
 
--- 01, What a call says: "its flags are only the three".
+-- §11.3: no flag but the three.
 unfoldable pub flagsRight : ℕ → Bool
 flagsRight f = eqb (bitOr f allFlags) allFlags
 
--- 01, What a call says: P "is below 2^48 and a multiple of 32".
+-- §11.2: P has 48 bits and is a multiple of 32.
 unfoldable pub placeRight : ℕ → Bool
 placeRight p = ltb p (2 ^ 48) && eqb (p % 32) 0
 
--- 01, What a call says: "it isn't half done, with held word and items zero".
+-- §11.4: nothing is half done: no mark, no word, no items.
 unfoldable pub betweenTwo : Record → Bool
 betweenTwo r = eqb (r .mark) 0 && (eqb (r .word) 0 && eqb (r .items) 0)
 
--- 01, What a call says: "the held word at P would fit memory, is a vector, bit or move instruction .. passing 5 to 11 with the present registers, and
--- 1 <= items done < its items".
+-- §11.5: the mark; a word that goes by items and that no check refuses at P, with these registers; and some of its items done, not all.
 unfoldable pub halfDone : ℕ → List ℕ → Record → Bool
 halfDone bytes registers r =
     eqb (r .mark) 1
@@ -31,14 +30,14 @@ halfDone bytes registers r =
     && (eqb (verdictOf (r .p) (r .word) (gathered (r .word) registers) bytes) 0
     && (leb 1 (r .items) && ltb (r .items) (countOf (r .word) (gathered (r .word) registers)))))
 
--- 01, What a call says: "A record is possible if ..".
+-- §12.7: P and flags are right, and the record is in one of these two ways; else refusal 3.
 unfoldable pub possible : ℕ → List ℕ → Record → Bool
 possible bytes registers r = placeRight (r .p) && (flagsRight (r .flags) && (betweenTwo r || halfDone bytes registers r))
 
--- 01, Steps: k items of a word at P are done, and not all.
+-- §10.5, §11.1: the record where k items of the word at p are done, and not all.
 abbrev pub half : ℕ → ℕ → ℕ → ℕ → Record
 half p word k flags = record { p = p; mark = 1; word = word; items = k; flags = flags }
 
--- Between two instructions, at P.
+-- §11.1, §11.4: the record between two instructions, at p.
 abbrev pub between : ℕ → ℕ → Record
 between p flags = record { p = p; mark = 0; word = 0; items = 0; flags = flags }

@@ -39,26 +39,26 @@ pub record Goes (bytes : ℕ) (c : Record) (word : ℕ) (o : Operands) (done : �
   pub of-items : byItems word ≡ true
   pub more : done < countOf word o
 
--- What working items i, .., i + j - 1 of a word gives.
+-- What working items i, .., i + j - 1 of a word gives: memory with them, and the next record with j steps.
 pub record Bursts (m : List ℕ) (c : Record) (word : ℕ) (o : Operands) (i j : ℕ) (m' : List ℕ) (r : Performed) : Type 0 where
   pub as-long : length m' ≡ length m
   pub memory : num m' ≡ worksOf word o (length m) i j (worked (num m) (c .flags)) .memory
   pub did : r ≡ Did (after (countOf word o) word (i + j) (c .p) (worksOf word o (length m) i j (worked (num m) (c .flags)) .flags)) j
 
--- Some steps are wanted of the instruction at P, from its start.
+-- Some steps are wanted of the instruction at P, from its start, and the lengths are right.
 pub record Starts (s : State) (most : ℕ) : Type 0 where
   pub some : 0 < most
   pub lengths : lengthsRight (s .bytes) (length (s .registers)) ≡ true
   pub unmarked : s .rec .mark ≡ 0
 
--- Some steps are wanted of what is half done.
+-- Some steps are wanted of what is half done, and the lengths are right.
 pub record Resumes (s : State) (most : ℕ) : Type 0 where
   pub some : 0 < most
   pub lengths : lengthsRight (s .bytes) (length (s .registers)) ≡ true
   pub half-way : halfDone (s .bytes) (s .registers) (s .rec) ≡ true
 
--- What doing at most `most` steps of one instruction gives: steps of the definition, one or more, or the definition's answer and no change. `there` is the
--- state that the memory and registers which it leaves make with a record.
+-- What doing at most `most` steps of one instruction gives: steps of the definition, one or more, or the definition's answer and no change. `there`
+-- is the state that the memory and registers which it leaves make with a record.
 abbrev pub Performs : State → ℕ → (Record → State) → Performed → Type 0
 Performs s most there (Did c j) = (0 < j) × ((j ≤ most) × (strides j s ≡ next (there c)))
 Performs s most there (Ended a) = (step s ≡ ended a) × (there (s .rec) ≡ s)
@@ -71,7 +71,7 @@ oneStepAt s = oneStep (s .rec .p) (wordAt s) (operandsAt s) (s .bytes)
 abbrev pub strideAt : List ℕ → List ℕ → Pace → State
 strideAt m r s = lentAt m r (between (s .p) (s .flags))
 
--- What a run of them gives: steps of the definition, until none is left or the next takes another way.
+-- What a run of them gives: steps of the definition, until none is left or the next instruction is refused or goes by items.
 pub record Strode (m r : List ℕ) (start : Pace) (m' r' : List ℕ) (s : Pace) : Type 0 where
   pub as-long : length m' ≡ length m
   pub few : s .left ≤ start .left
@@ -88,11 +88,11 @@ abbrev pub counted : Record → ℕ → Performed → Control
 counted c left (Did d j) = controlState d (left - j) Paused
 counted c left (Ended a) = controlState c left a
 
--- Is there a step to do?
+-- There is a step to do: no answer is known, and some budget is left.
 abbrev pub mayGo : Control → Bool
 mayGo c = paused (c .answer) && ltb 0 (c .left)
 
--- Where a control state leads.
+-- Where a control state leads: steps with what is left of its budget, or the answer that it has.
 unfoldable pub resume : Sight → Stopped
 resume v =
     cond (paused (v .control .answer)) (iterate (v .control .left) (stateIn v))
@@ -120,13 +120,13 @@ pub record Picked (budget : ℕ) (s : State) (there : Control → Sight) (x : Pe
   pub within : AtMost budget x
   pub taken : TakenUp budget s (there (counted (s .rec) budget x))
 
--- `halfDone` of a record with the mark, with the operands given.
+-- `halfDone` of a record that has the mark, with the operands given.
 unfoldable pub holding : ℕ → Operands → Record → Bool
 holding bytes o r =
     byItems (r .word)
     && (eqb (verdictOf (r .p) (r .word) o bytes) 0
     && (leb 1 (r .items) && ltb (r .items) (countOf (r .word) o)))
 
--- `possible` of a record with the mark, with the operands given.
+-- `possible` of a record that has the mark, with the operands given.
 unfoldable pub goesOn : ℕ → Operands → Record → Bool
 goesOn bytes o r = placeRight (r .p) && (flagsRight (r .flags) && holding bytes o r)
