@@ -31,7 +31,8 @@ numberOf Shared = 11
 abbrev pub refusals : List Answer
 refusals = Exit ∷ NotThere ∷ NotListed ∷ NotZero ∷ Designator ∷ Misaligned ∷ Short ∷ Outside ∷ Shared ∷ []
 
--- What a number that the checks gave says: the answer that has it ends the run. A number of none of them, such as 0, ends nothing, and the step is taken.
+-- §12.2: what a number that the checks gave says: the answer that has it ends the run. A number of none of them, such as 0, ends nothing, and the step
+-- is taken.
 unfoldable pub saidOf : ℕ → Said
 saidOf n = lookUp numberOf (λ a. Ends a) Allows n refusals
 
