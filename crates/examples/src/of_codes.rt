@@ -227,8 +227,8 @@ fn vectors_contracted() {
     one_source_refused(codes::VECTOR_ROUNDED_CONTRACT);
 }
 
-// A, X and Z 00, which is 0 against 0 (01's example 13 in B0); -3 + 1 against 1; -1 against 0 (01's example 14 in B3). Then the same unsigned, G bit 4.
-// The exit at 42A0 is next where the branch is taken, the one at 4040 where it is not.
+// A, X and Z 00, which is 0 against 0 (example 13 of the scope paper in B0); -3 + 1 against 1; -1 against 0 (its example 14 in B3). Then the same unsigned,
+// G bit 4. The exit at 42A0 is next where the branch is taken, the one at 4040 where it is not.
 fn compared(code: u64) {
     long(code, 0x00_00_00_00_1E_00_30);
     long(code, 0x00_1D_12_00_1E_1D_30);

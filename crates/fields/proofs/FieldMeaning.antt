@@ -160,7 +160,7 @@ module _ (f g : Field) where
       let w : widthOf (f .unit) ≡ 64 = eqb-true _ _ (b .0) in
       (w, (sym (eqb-true _ _ (a .0)) ∙ w, eqb-true _ _ (b .1)))
 
--- ---- "one that nothing is read from is empty and is not checked under 8, 10 or 11"
+-- ---- a field that is empty is not checked under 8, 10 or 11
 
 module _ (f : Field) (h : f .bits .0 ≡ 0) where
   pub empty-unchecked : (n : ℕ) (g : Field) → (aligned f ≡ true) × ((inside f n ≡ true) × ((shares f g ≡ false) × (shares g f ≡ false)))

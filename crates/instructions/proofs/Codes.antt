@@ -1,5 +1,6 @@
--- What each code does: one list in the order of the table, a line a code. Of an instruction that no check refuses a line says what memory, registers, P and flags
--- become, in terms of R, S and T, or of A, B, C, X, Y and Z and their items, all as they stood when it began. `runs` proves it of `run` by one statement (its Theorems, 6).
+-- What each code does: one list in the order of the table, a line a code. Of an instruction that no check refuses a line says what memory, registers, P and
+-- flags become, in terms of R, S and T, or of A, B, C, X, Y and Z and their items, all as they stood when it began. `runs` proves it of `run` by one
+-- statement (its Theorems, 6).
 use mathlib.Core.Bool.{Bool, true, false, cond, not, _||_}
 use mathlib.Core.List.{List, [], _∷_}
 use Prim.Native.Nat.{ℕ, zero, suc, _+_, _-_, _*_, _%_, _^_}

@@ -27,7 +27,7 @@ use Rattle.instructions.proofs.VerdictOrder.{Passes, next, verdict-none
 use Rattle.instructions.proofs.TablePlaces.{every, meansIn, Looked, has, none, looked, those}
 use Rattle.instructions.proofs.ByCode.{not-of}
 use Rattle.instructions.proofs.TableRules.{ofTwo, ofOne, secondRule}
-use Rattle.instructions.proofs.Planned.{alone-lane}
+use Rattle.instructions.proofs.PlainNumbers.{alone-lane}
 
 -- ---- bits, and bits or bytes, by their meaning
 

@@ -1,4 +1,4 @@
--- 01's examples hold of the definitions: one table, one statement, computed. Assumes nothing.
+-- The scope paper's examples hold of the definitions: one table, one statement, computed.
 use mathlib.Core.Path.{refl}
 use Rattle.numbers.specs.Twos.{signedAt}
 use Rattle.numbers.specs.Number.{coefficientAt, exponentAt, joinedAt}

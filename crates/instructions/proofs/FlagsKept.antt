@@ -1,4 +1,4 @@
--- 01, The machine that the job sees: flags are "set and never cleared": an instruction leaves every flag that it found.
+-- An instruction leaves every flag that it found.
 use mathlib.Core.Path.{_≡_, sym, ap, _∙_}
 use mathlib.Core.List.{List}
 use Prim.Native.Nat.{ℕ, zero, suc, _+_, _*_, _^_, _<_}

@@ -1,6 +1,5 @@
 -- An instruction that passes its checks may be worked: what the verdict says of the fields of a vector, bit or move instruction is what its loops ask of its plan.
 -- Each field of the layout is the plan's place and the plan's items, so the law is one for each kind of field, and one for each family of instructions.
--- Assumes nothing.
 use mathlib.Core.Path.{_≡_, refl, sym, subst, _∙_}
 use mathlib.Core.Bool.{Bool, true, false, cond, not, _&&_, _||_}
 use mathlib.Core.Logic.{_⊎_, inl, inr}

@@ -1,4 +1,4 @@
--- What the step of an instruction that no check refuses asks of the layers' functions, and what it comes to. Assumes nothing.
+-- What the step of an instruction that no check refuses asks of the layers' functions, and what it comes to.
 use mathlib.Core.Path.{_≡_, refl, sym, subst}
 use mathlib.Core.Bool.{true}
 use mathlib.Core.List.{List}

@@ -1,4 +1,4 @@
--- What the layer above may use of an instruction, whatever it does. Assumes nothing.
+-- What the layer above may use of an instruction, whatever it does.
 use mathlib.Core.Path.{_≡_, refl, subst, _∙_}
 use mathlib.Core.Bool.{Bool, true, false, cond, _&&_}
 use mathlib.Core.List.{List, [], _∷_}

@@ -26,15 +26,15 @@ use Rattle.instructions.proofs.Examples.{examples-hold}
 
 -- ---- 1. WORDS AND PARTS (demand 2)
 
--- A listed word taken into its parts and put together again is the same word.
+-- §3.15: a listed word taken into its parts and put together again is the same word.
 pub taken-apart-and-joined : (w : ℕ) (p : Parts) → w < 2 ^ 64 → reading w ≡ Reading.Listed p → assembled p ≡ Assembled.Word w
 taken-apart-and-joined = RoundTrip.read-assembled
 
--- Parts that are accepted read back the same.
+-- §3.15: parts that are accepted read back the same.
 pub joined-and-taken-apart : (p : Parts) (w : ℕ) → Whole p → assembled p ≡ Assembled.Word w → reading w ≡ Reading.Listed p
 joined-and-taken-apart = RoundTrip.assembled-read
 
--- Putting together refuses what reading refuses, under the same number.
+-- §3.15: putting together refuses what reading refuses, under the same number.
 pub refused-either-way : (p : Parts) (n : Refusal) → assembled p ≡ Assembled.Refused n → reading (joined p) ≡ Reading.Refused n
 refused-either-way = RoundTrip.refused-alike
 
@@ -43,21 +43,21 @@ refused-apart = RoundTrip.read-refused-alike
 
 -- ---- 2. EACH CODE ONCE (demand 2)
 
--- Each line of the table is the one that its code is looked up to: a listed code has one row and one meaning, and each row and each meaning has a code.
+-- §3.8: each line of the table is the one that its code is looked up to: a listed code has one row and one meaning, and each row and each meaning has a code.
 pub each-code-once : (l : Line) → In l table → (found (l .code) ≡ Found.At (rowOf l)) × (meaningOf (l .code) ≡ l .means)
 each-code-once = one-meaning
 
 -- ---- 3. NOTHING TO CHECK (demand 1)
 
--- An instruction that goes by items and has none is refused by none of 8 to 11.
+-- §12.19: an instruction that goes by items and has none is refused by none of 8 to 11.
 pub no-items-skip : (p w : ℕ) (o : Operands) (n : ℕ) → byItems w ≡ true → countOf w o ≡ 0 → firstNumber fieldChecks (caseOf p w o n) ≡ 0
 unfolding refusalOf
 no-items-skip p w o n = no-items-pass w o n
 
 -- ---- 4. ONE OUTCOME (demand 1)
 
--- What the contract of `work` says of memory and flags is met by one memory and one set of flags; what that of `act` says, by one memory, one list of registers, one P
--- and one set of flags. Every other public function's contract is an equation with its result.
+-- §13.1: what the contract of `work` says of memory and flags is met by one memory and one set of flags; what that of `act` says, by one memory, one list
+-- of registers, one P and one set of flags. Every other public function's contract is an equation with its result.
 pub works-once : (w : ℕ) (o : Operands) (from count : ℕ) (m : List ℕ) (f : ℕ) (m' m'' : List ℕ) (f' f'' : ℕ) → Bytes m' → Bytes m''
     → WorksTo w o from count m f m' f' → WorksTo w o from count m f m'' f'' → (m' ≡ m'') × (f' ≡ f'')
 works-once w o from count m f m' m'' f' f'' b b' k l =
@@ -76,6 +76,6 @@ acts-once p w o m r f m' m'' r' r'' p' p'' f' f'' b b' k l =
 
 -- ---- 5. EXAMPLES (demand 2)
 
--- 01's examples, one table.
+-- The scope paper's examples 1 to 5, 7 and 9 to 14, one table.
 pub as-in-the-examples : Each examples
 as-in-the-examples = examples-hold

@@ -1,4 +1,4 @@
--- Flags that are united with flags: what is among the three stays among them. Assumes nothing.
+-- Flags that are united with flags: what is among the three stays among them.
 use mathlib.Core.Path.{_≡_, sym, ap, ap₂, _∙_}
 use Prim.Native.Nat.{ℕ, zero, suc, _+_, _*_, _/_, _%_, _^_, _<_, max}
 use native.Mathlib.Nat.{mod-lt, two-pow-succ}

@@ -1,5 +1,5 @@
--- "A vector, bit or move instruction that has no items skips 8 to 11": all its fields are then empty, and an empty field passes. Nor is a field checked that
--- nothing is read from: it is empty by itself.
+-- A vector, bit or move instruction that has no items is refused by none of 8 to 11: all its fields are then empty, and an empty field passes. Nor is a
+-- field checked that nothing is read from: it is empty by itself.
 use mathlib.Core.Path.{_≡_, refl, sym, ap, _∙_}
 use mathlib.Core.Bool.{Bool, true, false, cond, not, _&&_, _||_}
 use Prim.Native.Nat.{ℕ, _%_, min, _≤_}
@@ -140,7 +140,7 @@ work-empty (eachOfA f) w o e = vector-empty w o Word true e
 work-empty (halfOfA f) w o e = vector-empty w o HalfWord true e
 work-empty moves w o e = move-empty o e
 
--- "A vector, bit or move instruction that has no items skips 8 to 11": the count is the one by which it runs
+-- an instruction without items skips 8 to 11: the count is the one by which it runs
 pub no-items-pass : (w : ℕ) (o : Operands) (n : ℕ) → byItems w ≡ true → countOf w o ≡ 0 → refusalOf (fieldsOf w o) n ≡ 0
 unfolding byItems planOf planIn
 no-items-pass w o n is none = ap (λ (f : Fields). refusalOf f n) (fields-mean w o) ∙ go (meaningIn w) is none
@@ -152,7 +152,7 @@ no-items-pass w o n is none = ap (λ (f : Fields). refusalOf f n) (fields-mean w
     go (branches c) is e = never (sym is)
     go (works k) is e = empty-passes (ofKind (kindFor (works k)) w o) n (work-empty k w o e)
 
--- ---- "one that nothing is read from is empty and is not checked under 8, 10 or 11"
+-- ---- a source that nothing is read from is not checked under 8, 10 or 11
 
 -- what an empty source is spared
 abbrev Unchecked : Field → Type 0

@@ -84,7 +84,7 @@ only-one n h (j ∷ before) k after c b a e = go (λ r. only-one n h before k af
     go rest true r = absurd (rw (eq-eqb (j .number) n r) at (and-first (other n j) (every (other n) before) b))
     go rest false r = rest r
 
--- ---- for the list of 01
+-- ---- for the list of checks
 
 numbered : Numbered checks
 unfolding every

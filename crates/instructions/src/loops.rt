@@ -1,5 +1,5 @@
-// The loops of vectors. They decode nothing: each is called with the function code as a literal, and from a branch of each test that a bool makes (forms.rt), so
-// that the compiler makes a loop of its own of every call.
+// The loops of vectors. They decode nothing: each is called with the function code as a literal, and from a branch of each test that a bool makes
+// (forms.rt), so that the compiler makes a loop of its own of every call.
 ghost use mathlib.Core.Path.{_≡_};
 ghost use mathlib.Core.Bool.{true, false, cond};
 ghost use Prim.Native.Nat.{_+_, _*_, _<_, _≤_};

@@ -1,4 +1,4 @@
-// What refuses an instruction: the first of 01's numbers 4 to 11 and 1 that applies.
+// What refuses an instruction: the first of 4, 5, 6, 7, 1 and 8 to 11 that applies (docs/MACHINE.md, section 12).
 ghost use mathlib.Core.Path.{_≡_};
 ghost use lib.ListN.{length};
 ghost use Rattle.fields.specs.Bytes.{num};

@@ -1,4 +1,4 @@
-// Each answer of a call, in words: 01, What a call says.
+// Each answer of a call, in words (docs/MACHINE.md, section 12).
 use lines::decimal;
 use lines::text;
 use runs::answers::Answer;

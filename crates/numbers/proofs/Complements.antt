@@ -1,6 +1,5 @@
 -- Two's complement over the width: the bits of a number and the number of the bits are inverse, and so are a number's parts and the number. Each law is
 -- over h, one less than the width, and serves 64-bit and 32-bit numbers alike.
--- Assumes nothing.
 use mathlib.Core.Path.{_≡_, sym, ap, ap₂, _∙_}
 use mathlib.Core.Bool.{Bool, cond}
 use mathlib.Core.Logic.{⊎-elim}

@@ -1,5 +1,4 @@
 -- What the results of truncate, floor, ceiling and contract hold: no bit of a quotient or of an exponent is lost when they are put together.
--- Assumes nothing.
 use mathlib.Core.Path.{_≡_, refl}
 use mathlib.Core.Bool.{Bool, true, false, cond}
 use Prim.Native.Nat.{ℕ, _+_, _^_, _≤_, _<_}

@@ -1,5 +1,4 @@
 -- Signed numbers as the code has them. ℤ is pos n, which is n, and negsuc n, which is -1 - n: so -1 - z swaps the two, and keeps `mag`.
--- Assumes nothing.
 use mathlib.Core.Path.{_≡_, refl, sym, ap, _∙_, subst}
 use mathlib.Core.Bool.{Bool, true, false, cond}
 use mathlib.Core.Logic.{_⊎_, inl, inr, ⊎-elim}

@@ -1,4 +1,4 @@
--- Fields put side by side in a word. Assumes nothing.
+-- Fields put side by side in a word.
 use mathlib.Core.Path.{_≡_}
 use Prim.Native.Nat.{ℕ, _+_, _*_, _%_, _^_, _≤_, _<_}
 use lib.Bits.{bitOr, or-shifted}

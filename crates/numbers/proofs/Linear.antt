@@ -1,6 +1,5 @@
 -- Linear facts of signed numbers, for omega, which does not read ℤ. `raised z` is z + 2 ^ 62, a natural number for each z of a magnitude below 2 ^ 62:
 -- a sum, an order or a bound of such numbers is one of their `raised`s, and at a literal `raised` computes.
--- Assumes nothing.
 use mathlib.Core.Path.{_≡_, sym, subst}
 use mathlib.Core.Bool.{true, false}
 use mathlib.Core.Logic.{⊎-elim}

@@ -1,5 +1,4 @@
 -- The three roundings of a quotient: what each means, how large it is, and how it follows from a quotient of natural numbers.
--- Assumes nothing.
 use mathlib.Core.Path.{_≡_, refl, sym, ap, _∙_}
 use Prim.Native.Nat.{ℕ, zero, suc, _+_, _-_, _*_, _/_, _%_, _^_, _≤_, _<_, zero-le}
 use native.Mathlib.Nat.{div-le-self, div-eq-of-lt, div-add-mod', le-of-suc-le-suc, lt-of-lt-of-le, mod-lt, not-suc-le-zero, suc-mul}

@@ -1,4 +1,4 @@
--- The flags that a result sets are among the three that exist. Assumes nothing.
+-- The flags that a result sets are among the three that exist.
 use mathlib.Core.Path.{_≡_, refl}
 use mathlib.Core.Bool.{Bool, true, false, cond}
 use Prim.Native.Nat.{ℕ}

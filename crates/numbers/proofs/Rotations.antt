@@ -1,5 +1,4 @@
 -- Rotation and the right shift with sign, as shifts and masks make them. Each law is over the widths j and k of the two parts of a word.
--- Assumes nothing.
 use mathlib.Core.Path.{_≡_, sym, ap, ap₂, _∙_}
 use Prim.Native.Nat.{ℕ, _+_, _-_, _*_, _/_, _%_, _^_, _≤_, _<_}
 use native.Mathlib.Nat.{add-zero, mod-eq-of-lt, div-eq-of-lt, mul-one, add-comm, div-le-self, lt-of-le-of-lt}

@@ -3,7 +3,7 @@
 -- DEMAND 1, total: a call takes every memory, register set, record and budget, ends, and answers paused, exit or one numbered refusal: sections 1 to 4.
 -- DEMAND 2, right: every listed instruction that is not refused does what the machine's documents say: sections 5 to 8.
 -- DEMAND 3, resumable: a budget cut into parts gives the same end as one call: sections 9 to 13.
--- Section 14 shows that 01's wrong runs meet none of it.
+-- Section 14 shows that wrong runs meet none of it. §N.M is a rule of docs/MACHINE.md.
 use mathlib.Core.Path.{_≡_, refl, sym, _∙_, ap}
 use mathlib.Core.Bool.{Bool, true, false, false≢true}
 use mathlib.Core.List.{List, [], _∷_, map}
@@ -54,8 +54,8 @@ use Rattle.runs.proofs.Keeping.{flags-run, run-00, same-00-run}
 
 -- ---- 1. STEPS (demand 1)
 
--- The reported steps are those finished in this call: so many lead from the state at its start to the one that it leaves, from every start. With 0 they are the
--- whole budget. (`anywhere`, below, counts them by items and instructions.)
+-- §10.7, §12.4: the reported steps are those finished in this call: so many lead from the state at its start to the one that it leaves, from every start.
+-- With 0 they are the whole budget. (`anywhere`, below, counts them by items and instructions.)
 pub record StepsTaken (n : ℕ) (s : State) : Type 0 where
   pub finished : strides (run n s .steps) s ≡ next (run n s .state)
   pub whole-budget : numberOf (run n s .answer) ≡ 0 → run n s .steps ≡ n
@@ -65,8 +65,8 @@ steps-taken n s = record { finished = taken n s (run n s) (ran n s); whole-budge
 
 -- ---- 2. REFUSED CHANGES NOTHING (demand 1)
 
--- With 2 and 3 nothing at all has changed, and no step was taken. With 1 and 4 to 11 the state is the one that the last finished step left: between two
--- instructions, with P at the word that was refused, whose verdict is the answer's number; and fewer steps were taken than the budget allows.
+-- §12.16: with 2 and 3 nothing at all has changed, and no step was taken. With 1 and 4 to 11 the state is the one that the last finished step left: between
+-- two instructions, with P at the word that was refused, whose verdict is the answer's number; and fewer steps were taken than the budget allows.
 pub record ChangesNothing (n : ℕ) (s : State) : Type 0 where
   pub at-once : (numberOf (run n s .answer) ≡ 2) ⊎ (numberOf (run n s .answer) ≡ 3) → (run n s .state ≡ s) × (run n s .steps ≡ 0)
   pub at-its-word : OfChecks (numberOf (run n s .answer)) → Refused n s (numberOf (run n s .answer)) (run n s .steps) (run n s .state)
@@ -79,9 +79,9 @@ refused-changes-nothing n s = record {
 
 -- ---- 3. EXACTLY WHEN (demand 1, and which instructions demand 2 speaks of)
 
--- 01's table, each number both ways. 0: neither 2 nor 3, and all the budget is used in steps. 2: "memory length wrong, or not 256 registers". 3: "record
--- impossible", where 2 does not apply. 1 and 4 to 11: neither 2 nor 3, and fewer steps than the budget lead to a state between two instructions where this is
--- the verdict on the word at P.
+-- §13.1, §12.2, §12.4, §12.6, §12.7: each number both ways. 0: neither 2 nor 3, and all the budget is used in steps. 2: the memory's length is wrong, or
+-- there are not 256 registers. 3: the record is not possible, and 2 does not apply. 1 and 4 to 11: neither 2 nor 3, and fewer steps than the budget lead to
+-- a state between two instructions where this is the verdict on the word at P.
 pub record ExactlyWhen (n : ℕ) (s : State) : Type 0 where
   pub zero : (numberOf (run n s .answer) ≡ 0) ↔ (Sound s × ((t : State) × (strides n s ≡ next t)))
   pub two : (numberOf (run n s .answer) ≡ 2) ↔ (lengthsRight (s .bytes) (length (s .registers)) ≡ false)
@@ -110,13 +110,13 @@ exactly-when n s = record {
     number : Called → ℕ
     number c = numberOf (c .answer)
 
--- Every call says one of these numbers.
+-- §13.1: every call says one of these numbers.
 pub says-one : (n : ℕ) (s : State)
     → (numberOf (run n s .answer) ≡ 0) ⊎ ((numberOf (run n s .answer) ≡ 2) ⊎ ((numberOf (run n s .answer) ≡ 3) ⊎ OfChecks (numberOf (run n s .answer))))
 says-one n s = says-any n s (run n s) (ran n s)
 
--- And this is the verdict exactly when the check of that number refuses the word at P and none before it does, in the order of `checks` (instructions,
--- specs/Verdict), where each stands with 01's "When"; no check refuses it exactly when the verdict is 0.
+-- §12.2: this is the verdict exactly when the check of that number refuses the word at P and none before it does, in the order of `checks` (instructions,
+-- specs/Verdict), where each stands with what it asks; no check refuses it exactly when the verdict is 0.
 pub record First (t : State) : Type 0 where
   pub refuses : (v : ℕ) → OfChecks v → (verdictAt t ≡ v) ↔ Earliest v (caseOf (t .rec .p) (wordAt t) (operandsAt t) (t .bytes)) checks
   pub none-refuses : (verdictAt t ≡ 0) ↔ Passes (caseOf (t .rec .p) (wordAt t) (operandsAt t) (t .bytes)) checks
@@ -127,15 +127,15 @@ first-refuses t = record {
   none-refuses = verdict-none (t .rec .p) (wordAt t) (operandsAt t) (t .bytes);
 }
 
--- The verdict goes by P, the word there, the registers and the memory's length, whatever else memory holds: the address of an item is checked alike, whether its
--- control bit lets it be stored or not.
+-- §12.17: the verdict goes by P, the word there, the registers and the memory's length, whatever else memory holds: the address of an item is checked
+-- alike, whether its control bit lets it be stored or not.
 pub whatever-memory-holds : (s t : State) → s .rec .p ≡ t .rec .p → wordAt s ≡ wordAt t → s .registers ≡ t .registers → s .bytes ≡ t .bytes → verdictAt s ≡ verdictAt t
 whatever-memory-holds s t p w r b = cc
 
 -- ---- 4. ONE OUTCOME (demand 1)
 
--- What the contract of `run` says of the memory, registers and outcome that it leaves is met by one memory, one list of registers and one outcome. (`Bytes`:
--- each byte is below 256, as in every slice of them.)
+-- §13.1: what the contract of `run` says of the memory, registers and outcome that it leaves is met by one memory, one list of registers and one outcome.
+-- (`Bytes`: each byte is below 256, as in every slice of them.)
 pub one-outcome : (x : Called) (m m' r r' : List ℕ) (o o' : Outcome) → Bytes m → Bytes m' → leaves (lentAt m r) o ≡ x → leaves (lentAt m' r') o' ≡ x
     → (m ≡ m') × ((r ≡ r') × (o ≡ o'))
 one-outcome x m m' r r' o o' b b' p q =
@@ -144,7 +144,7 @@ one-outcome x m m' r r' o o' b b' p q =
       (ap (λ (c : Called). c .state .registers) e, ap (λ (c : Called). record { answer = c .answer; steps = c .steps; rec = c .state .rec }) e),
     )
 
--- The same of `Control::step`.
+-- §13.1: the same of `Control::step`.
 pub one-step : (x : Sight) (m m' r r' : List ℕ) (d d' : Control) → Bytes m → Bytes m' → seenAt m r d ≡ x → seenAt m' r' d' ≡ x
     → (m ≡ m') × ((r ≡ r') × (d ≡ d'))
 one-step x m m' r r' d d' b b' p q =
@@ -153,8 +153,8 @@ one-step x m m' r r' d d' b b' p q =
       (ap (λ (v : Sight). v .registers) e, ap (λ (v : Sight). v .control) e),
     )
 
--- The same of the outer call, `rawgunshet_run`: one memory, one list of registers, one record and one result. Every other public function's contract is an
--- equation with its result.
+-- §13.1: the same of the outer call, `rawgunshet_run`: one memory, one list of registers, one record and one result. Every other public function's contract
+-- is an equation with its result.
 pub one-lent : (x : LentCall) (m m' r r' : List ℕ) (c c' : Record) (v v' : ℕ) → Bytes m → Bytes m'
     → lent (lentAt m r c) v ≡ x → lent (lentAt m' r' c') v' ≡ x
     → (m ≡ m') × ((r ≡ r') × ((c ≡ c') × (v ≡ v')))
@@ -164,7 +164,7 @@ one-lent x m m' r r' c c' v v' b b' p q =
       (ap (λ (l : LentCall). l .state .registers) e, (ap (λ (l : LentCall). l .state .rec) e, ap (λ (l : LentCall). l .result) e)),
     )
 
--- The outer call's result keeps both numbers: the answer's is in its left 32 bits, the steps are in its right 32, for every budget of 32 bits.
+-- §12.1: the outer call's result keeps both numbers: the answer's is in its left 32 bits, the steps are in its right 32, for every budget of 32 bits.
 pub lent-says : (n : ℕ) (s : State) → n < 2 ^ 32
     → (handed (run n s) .result / 2 ^ 32 ≡ numberOf (run n s .answer)) × (handed (run n s) .result % 2 ^ 32 ≡ run n s .steps)
 lent-says n s fits =
@@ -173,13 +173,13 @@ lent-says n s fits =
 
 -- ---- 5. ONE INSTRUCTION (demand 2)
 
--- At a word that no check refuses and that does not go by items, one step does the instruction: a call of budget 1 leaves what `acted` says of the word, and
--- is paused.
+-- §13.2, §10.3: at a word that no check refuses and that does not go by items, one step does the instruction: a call of budget 1 leaves what `acted` says
+-- of the word, and is paused.
 pub does-one : (s : State) → Sound s → s .rec .mark ≡ 0 → verdictAt s ≡ 0 → byItems (wordAt s) ≡ false → run 1 s ≡ call (acted s) Paused 1
 does-one s ok m passes other = run-of 1 s _ (all-used (acted s) ok (one-stride s (acted s) (step-acted s m passes other)) refl)
 
--- At a vector, bit or move instruction that no check refuses, as many steps as it has items (one, where it has none) do the instruction as a whole, from its
--- sources as they stood when it began: a call of that budget leaves what `allItems` says, with P past the word, and is paused.
+-- §13.2, §10.2: at a vector, bit or move instruction that no check refuses, as many steps as it has items (one, where it has none) do the instruction as a
+-- whole, from its sources as they stood when it began: a call of that budget leaves what `allItems` says, with P past the word, and is paused.
 pub does-all : (s : State) → Sound s → s .rec .mark ≡ 0 → verdictAt s ≡ 0 → byItems (wordAt s) ≡ true → run (stepsOf s) s ≡ call (allItems s) Paused (stepsOf s)
 does-all s ok m passes is = run-of (stepsOf s) s _ (all-used (allItems s) ok (steps-whole s ok m passes is) refl)
 
@@ -194,8 +194,8 @@ abbrev leavesAs : Result → State → Called
 leavesAs ends s = call s Exit 0
 leavesAs (becomes d) s = call (finished (s .bytes) d) Paused (stepsOf s)
 
--- `codes` (instructions, proofs/Codes) is one list that says of each code, in terms of R, S, T or A, B, C, what register, memory item, flags and P become. Where none
--- of 4 to 11 refuses the word at P, a call leaves what the line of its code says.
+-- §13.2: `codes` (instructions, proofs/Codes) is one list that says of each code, in terms of R, S, T or A, B, C, what register, memory item, flags and P
+-- become. Where none of 4 to 11 refuses the word at P, a call leaves what the line of its code says.
 pub does-by-code : (l : Does) → In l codes → (s : State) → Sound s → s .rec .mark ≡ 0 → codeIn (wordAt s) ≡ l .code → verdictAt s ≤ 1
     → run (stepsOf s) s ≡ leavesAs (l .leaves (before s)) s
 does-by-code l i s ok m c low = by-verdict (verdictAt s) refl low ∙ ap (λ (r : Result). leavesAs r s) (sym (line-means l i (wordAt s) c (before s)))
@@ -219,15 +219,16 @@ does-by-code l i s ok m c low = by-verdict (verdictAt s) refl low ∙ ap (λ (r 
         ∙ ap (λ (k : Meaning). leavesAs (comesOf k (before s)) s) (sym (x .0))
     by-verdict (suc (suc n)) e h = absurd (omega arith)
 
--- Every code of the table has its line there, and no other code has one.
+-- §3.8: every code of the table has its line there, and no other code has one.
 pub all-codes : map (λ (l : Does). l .code) codes ≡ map (λ (l : Line). l .code) table
 all-codes = refl
 
--- The round trip of words and parts is the theorem of the layer that has them: `taken-apart-and-joined` and `joined-and-taken-apart` (instructions, proofs/Theorems).
+-- §3.15: the round trip of words and parts is the theorem of the layer that has them: `taken-apart-and-joined` and `joined-and-taken-apart` (instructions,
+-- proofs/Theorems).
 
 -- ---- 7. WHOLE INSTRUCTIONS (demand 2)
 
--- From a start between two instructions, wherever nothing is half done, the state is the one that some number of whole instructions lead to.
+-- §13.2: from a start between two instructions, wherever nothing is half done, the state is the one that some number of whole instructions lead to.
 pub whole-instructions : (n : ℕ) (s : State) → Sound s → s .rec .mark ≡ 0 → run n s .state .rec .mark ≡ 0 → (i : ℕ) × (wholes i s ≡ next (run n s .state))
 whole-instructions n s ok m h = go (run n s .state) (steps-reach (run n s .steps) s (run n s .state) ok m (steps-taken n s .finished)) h
   where
@@ -237,22 +238,23 @@ whole-instructions n s ok m h = go (run n s .state) (steps-reach (run n s .steps
 
 -- ---- 8. FLAGS AND REGISTER 00 (demand 2)
 
--- 01: flags are "set and never cleared": from every start, a call leaves every flag that it found.
+-- §4.4: from every start, a call leaves every flag that it found.
 pub flags-kept : (n : ℕ) (s : State) → bitOr (s .rec .flags) (run n s .state .rec .flags) ≡ run n s .state .rec .flags
 flags-kept = flags-run
 
--- Register 00 is never read: from every start, with another word in it, a call differs in nothing but that word.
+-- §3.7: register 00 is never read: from every start, with another word in it, a call differs in nothing but that word.
 pub never-read : (n v : ℕ) (s : State) → run n (with00 v s) ≡ call (with00 v (run n s .state)) (run n s .answer) (run n s .steps)
 never-read n v s = run-00 v n s
 
--- And it is never written.
+-- §3.7: and it is never written.
 pub never-written : (n : ℕ) (s : State) → getD (run n s .state .registers) 0 0 ≡ getD (s .registers) 0 0
 never-written = same-00-run
 
 -- ---- 9. CUTTING (demand 3)
 
--- A budget may be cut into any parts of one or more: calls one after another, each on the state that the one before left, leave the same registers, memory,
--- record and flags as one call, with the same last answer and as many steps in all. From every start, an impossible one too; a first part of 0 does no harm.
+-- §13.3: a budget may be cut into any parts of one or more: calls one after another, each on the state that the one before left, leave the same registers,
+-- memory, record and flags as one call, with the same last answer and as many steps in all. From every start, an impossible one too; a first part of 0 does
+-- no harm.
 pub cutting : (n : ℕ) (ks : List ℕ) (s : State) → OneOrMore ks → inParts n ks s ≡ run (n + total ks) s
 cutting n [] s parts =
     let e : n + 0 ≡ n = omega arith in
@@ -263,24 +265,26 @@ cutting n (k ∷ ks) s parts =
 
 -- ---- 10. ENDED (demand 3)
 
--- After an exit or a refusal a larger budget gives the same: answer, steps and state.
+-- §12.16: after an exit or a refusal a larger budget gives the same: answer, steps and state.
 pub ended-stays : (n k : ℕ) (s : State) → paused (run n s .answer) ≡ false → run (n + k) s ≡ run n s
 ended-stays n k s = stays n k s (run n s) (ran n s)
 
 -- ---- 11. HALF DONE (demand 3)
 
--- k steps at a vector, bit or move instruction that passes and has more than k items: the call is paused; memory and flags show exactly the first k items, and
--- the record holds P, the word as it was fetched, and k (`cutAt` says so).
+-- §10.5: k steps at a vector, bit or move instruction that passes and has more than k items: the call is paused; memory and flags show exactly the first k
+-- items, and the record holds P, the word as it was fetched, and k (`cutAt` says so).
 pub half-done : (s : State) (k : ℕ) → Sound s → Partial s k → run k s ≡ call (cutAt k s) Paused k
 half-done s k ok h = run-of k s _ (all-used (cutAt k s) ok (steps-cut s k ok h) refl)
 
--- Wherever a call stops that began between two instructions, the state is the one that whole instructions lead to, or they and the first k items of the next
--- one, and the reported steps are the instructions' steps and those items. The record then holds that word as it was fetched, whatever memory holds at P.
+-- §10.7, §13.2: wherever a call stops that began between two instructions, the state is the one that whole instructions lead to, or they and the first k
+-- items of the next one, and the reported steps are the instructions' steps and those items. The record then holds that word as it was fetched, whatever
+-- memory holds at P.
 pub anywhere : (n : ℕ) (s : State) → Sound s → s .rec .mark ≡ 0 → Reached s (run n s .steps) (run n s .state)
 anywhere n s ok m = steps-reach (run n s .steps) s (run n s .state) ok m (steps-taken n s .finished)
 
--- A call that goes on with what is half done, for j of the items that are left, works those of the word that the record holds, whatever memory holds at P, and
--- is paused. Short of the last item the record holds the same P and word, and j items more; after the last one nothing is half done, and P is past the word.
+-- §10.4, §10.5, §10.6: a call that goes on with what is half done, for j of the items that are left, works those of the word that the record holds,
+-- whatever memory holds at P, and is paused. Short of the last item the record holds the same P and word, and j items more; after the last one nothing is
+-- half done, and P is past the word.
 pub record GoesOn (s : State) (j : ℕ) : Type 0 where
   pub works : run j s ≡ call (heldAt j s) Paused j
   pub short :
@@ -305,17 +309,17 @@ goes-on s j ok marked some few = record {
 
 -- ---- 12. POSSIBLE AGAIN (demand 3)
 
--- A record that a call hands back is possible with the registers and the memory that it hands back, wherever neither 2 nor 3 was said.
+-- §11.6: a record that a call hands back is possible with the registers and the memory that it hands back, wherever neither 2 nor 3 was said.
 pub possible-again : (n : ℕ) (s : State) → Sound s → Sound (run n s .state)
 possible-again n s ok = strides-sound (run n s .steps) s (run n s .state) ok (steps-taken n s .finished)
 
 -- ---- 13. STEP BY STEP (demand 3)
 
--- Begin, step as often as the budget says, and finish: the same as the one call.
+-- §12.1: begin, step as often as the budget says, and finish: the same as the one call.
 pub step-by-step : (n : ℕ) (s : State) → finishAt n (stepControls n (beginAt n s)) ≡ run n s
 step-by-step = stepping
 
--- ---- 14. NOT THESE
+-- ---- 14. NOT THESE (§13.4)
 
 -- A run that refuses everything, but where the budget is 0, differs wherever a budget is used up in steps. At a transmit with budget 1 it differs.
 pub not-refusing : (wrong : ℕ → State → Called) → ((n : ℕ) (s : State) → 0 < n → paused (wrong n s .answer) ≡ false)

@@ -14,8 +14,8 @@ use runs::calls;
 use runs::calls::Outcome;
 use runs::records::Record;
 
-// The five words of the chart: 32-bit ones are transmits and an exit, 64-bit ones are branches that are not taken. Behind them a branch that is taken, to a base of
-// 4000 and an index of half words.
+// The five words of the chart: 32-bit ones are transmits and an exit, 64-bit ones are branches that are not taken. Behind them a branch that is taken, to a
+// base of 4000 and an index of half words.
 fn chart(p: u64, budget: u32, half_words: u64) -> Outcome {
     let mut m = [0u8; 48];
     let mut registers = [0u64; 256];

@@ -1,4 +1,4 @@
--- `fields::bytes::bit` meets its contract: a bit is a field within its byte. Assumes nothing.
+-- `fields::bytes::bit` meets its contract: a bit is a field within its byte.
 use Prim.Native.Nat.{ℕ, _/_}
 use native.Mathlib.Omega.{arith}
 use Rattle.fields.proofs.Lists.{bit-field}

@@ -1,4 +1,4 @@
--- `fields::bytes::byte` meets its contract: a byte is a field. Assumes nothing.
+-- `fields::bytes::byte` meets its contract: a byte is a field.
 use mathlib.Core.Path.{sym}
 use Prim.Native.Nat.{ℕ}
 use native.Mathlib.Omega.{arith}

@@ -1,4 +1,4 @@
--- `fields::bytes::half_word` meets its contract: four bytes read from the right and turned round are the field. Assumes nothing.
+-- `fields::bytes::half_word` meets its contract: four bytes read from the right and turned round are the field.
 use Prim.Native.Nat.{ℕ}
 use native.Mathlib.Omega.{arith}
 use Rattle.fields.proofs.Orders.{turned-field}

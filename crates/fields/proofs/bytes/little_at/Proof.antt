@@ -1,4 +1,4 @@
--- `fields::bytes::little_at` meets its contract: the loop's invariant: x is the i bytes read so far, the first rightmost. Assumes nothing.
+-- `fields::bytes::little_at` meets its contract: the loop's invariant: x is the i bytes read so far, the first rightmost.
 use mathlib.Core.Path.{_≡_, sym, ap, _∙_}
 use Prim.Native.Nat.{ℕ, _+_, _-_, _*_, _%_, _^_, _≤_}
 use native.Mathlib.Omega.{arith}

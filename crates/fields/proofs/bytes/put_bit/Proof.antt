@@ -1,4 +1,4 @@
--- `fields::bytes::put_bit` meets its contract: to set a byte with one bit changed is to store that bit. Assumes nothing.
+-- `fields::bytes::put_bit` meets its contract: to set a byte with one bit changed is to store that bit.
 use mathlib.Core.Path.{ap, _∙_}
 use Prim.Native.Nat.{ℕ, _/_}
 use lib.ListN.{set, length-set}

@@ -1,4 +1,4 @@
--- `fields::bytes::put_byte` meets its contract: to set a byte is to store a field. Assumes nothing.
+-- `fields::bytes::put_byte` meets its contract: to set a byte is to store a field.
 use mathlib.Core.Path.{ap, _∙_}
 use Prim.Native.Nat.{ℕ}
 use native.Mathlib.Nat.{mod-eq-of-lt}

@@ -1,4 +1,4 @@
--- `fields::bytes::put_half_word` meets its contract: four bytes turned round and stored from the right are the field. Assumes nothing.
+-- `fields::bytes::put_half_word` meets its contract: four bytes turned round and stored from the right are the field.
 use Rattle.fields.proofs.Orders.{kept-turned}
 use borrow.Author.Needs.{needs}
 use Rattle.fields.proofs.bytes.put_half_word.Statement.{statement}

@@ -1,4 +1,4 @@
--- `fields::bytes::put_little` meets its contract: the loop's invariant: memory has the i bytes stored so far as one field, and all else as it was. Assumes nothing.
+-- `fields::bytes::put_little` meets its contract: the loop's invariant: memory has the i bytes stored so far as one field, and all else as it was.
 use mathlib.Core.Path.{_≡_, refl, sym, ap, _∙_}
 use Prim.Native.Nat.{ℕ, _+_, _-_, _*_, _≤_}
 use native.Mathlib.Nat.{mod-lt}

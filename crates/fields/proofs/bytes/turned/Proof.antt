@@ -1,4 +1,4 @@
--- `fields::bytes::turned` meets its contract: the loop's invariant: the i bytes taken so far stand at the left of y, in the other order. Assumes nothing.
+-- `fields::bytes::turned` meets its contract: the loop's invariant: the i bytes taken so far stand at the left of y, in the other order.
 use mathlib.Core.Path.{_≡_, sym, ap, _∙_}
 use Prim.Native.Nat.{ℕ, _-_, _*_, _/_, _%_, _^_, _≤_}
 use native.Mathlib.Nat.{zero-mul, mul-one, sub-self}

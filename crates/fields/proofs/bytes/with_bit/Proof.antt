@@ -1,4 +1,4 @@
--- `fields::bytes::with_bit` meets its contract: what the bit holds is taken off, and v added, at the bit's place. Assumes nothing.
+-- `fields::bytes::with_bit` meets its contract: what the bit holds is taken off, and v added, at the bit's place.
 use mathlib.Core.Path.{_≡_, ap, _∙_}
 use Prim.Native.Nat.{ℕ, _+_, _-_, _*_, _%_, _^_, _<_}
 use native.Mathlib.Nat.{one-mul}

@@ -1,4 +1,4 @@
--- `fields::bytes::word` meets its contract: eight bytes read from the right and turned round are the field. Assumes nothing.
+-- `fields::bytes::word` meets its contract: eight bytes read from the right and turned round are the field.
 use Prim.Native.Nat.{ℕ}
 use native.Mathlib.Omega.{arith}
 use Rattle.fields.proofs.Orders.{turned-field}

@@ -1,4 +1,4 @@
--- `fields::memory::read_half_word` meets its contract: the index that `offset` gives is the address's. Assumes nothing.
+-- `fields::memory::read_half_word` meets its contract: the index that `offset` gives is the address's.
 use Rattle.fields.proofs.Addresses.{read-there}
 use borrow.Author.Needs.{needs}
 use Rattle.fields.proofs.memory.read_half_word.Statement.{statement}

@@ -1,4 +1,4 @@
--- `fields::memory::write_bit` meets its contract: the index that `offset` gives is the address's. Assumes nothing.
+-- `fields::memory::write_bit` meets its contract: the index that `offset` gives is the address's.
 use borrow.Author.Needs.{needs}
 use Rattle.fields.proofs.memory.write_bit.Statement.{statement}
 use Rattle.fields.proofs.memory.write_bit.Tie as tie

@@ -1,4 +1,4 @@
--- `fields::memory::write_byte` meets its contract: the index that `offset` gives is the address's. Assumes nothing.
+-- `fields::memory::write_byte` meets its contract: the index that `offset` gives is the address's.
 use Rattle.fields.proofs.Addresses.{kept-there}
 use borrow.Author.Needs.{needs}
 use Rattle.fields.proofs.memory.write_byte.Statement.{statement}

@@ -1,4 +1,4 @@
--- `instructions::branches::branch`: the effect is the same on both ways, and the test says where control goes. Assumes nothing.
+-- `instructions::branches::branch`: the effect is the same on both ways, and the test says where control goes.
 use mathlib.Core.Path.{refl, sym, _∙_}
 use borrow.Author.Needs.{needs}
 use Rattle.instructions.proofs.Addressed.{branch-is}

@@ -1,4 +1,4 @@
--- `instructions::branches::less`: signed numbers are compared as coefficients, which a signed local holds as they are. Assumes nothing.
+-- `instructions::branches::less`: signed numbers are compared as coefficients, which a signed local holds as they are.
 use mathlib.Core.Path.{ap₂}
 use borrow.Author.Needs.{needs}
 use lib.Signed.{ltZ}

@@ -1,4 +1,4 @@
--- `instructions::branches::taken`: what is compared is what the callees gave. Assumes nothing.
+-- `instructions::branches::taken`: what is compared is what the callees gave.
 use borrow.Author.Needs.{needs}
 use Rattle.instructions.proofs.Addressed.{taken-is}
 use Rattle.instructions.proofs.branches.taken.Statement.{statement}

@@ -1,4 +1,4 @@
--- `instructions::branches::target`: an index in half words. Assumes nothing.
+-- `instructions::branches::target`: an index in half words.
 use borrow.Author.Needs.{needs}
 use Rattle.instructions.proofs.Addressed.{index-is}
 use Rattle.instructions.proofs.branches.target.Statement.{statement}

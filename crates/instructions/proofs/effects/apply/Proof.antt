@@ -1,4 +1,4 @@
--- `instructions::effects::apply`: case by case, what is stored is what the definition says, and the other side is as it was. Assumes nothing.
+-- `instructions::effects::apply`: case by case, what is stored is what the definition says, and the other side is as it was.
 use mathlib.Core.Path.{refl}
 use native.Mathlib.Omega.{arith}
 use borrow.Author.Needs.{needs}

@@ -1,4 +1,4 @@
--- `instructions::effects::put_half`: one register is stored, and it is the one that was read. Assumes nothing.
+-- `instructions::effects::put_half`: one register is stored, and it is the one that was read.
 use borrow.Author.Needs.{needs}
 use Rattle.instructions.proofs.effects.put_half.Statement.{statement}
 use Rattle.instructions.proofs.effects.put_half.Tie as tie

@@ -1,4 +1,4 @@
--- `instructions::effects::with_half`: a number's last bit says which half is written; the other is a quotient or a remainder by 2^32. Assumes nothing.
+-- `instructions::effects::with_half`: a number's last bit says which half is written; the other is a quotient or a remainder by 2^32.
 use mathlib.Core.Path.{_≡_}
 use Prim.Native.Nat.{_%_}
 use native.Mathlib.Omega.{arith}

@@ -3,7 +3,7 @@ use mathlib.Core.Path.{refl}
 use Prim.Native.Nat.{_+_}
 use native.Mathlib.Omega.{arith}
 use Rattle.instructions.proofs.ByCode.{not-wide}
-use Rattle.instructions.proofs.Planned.{reach-at, single-reach, turned-at, single-turned}
+use Rattle.instructions.proofs.PlainNumbers.{reach-at, single-reach, turned-at, single-turned}
 use borrow.Author.Needs.{needs}
 use Rattle.instructions.proofs.forms.by_code.Statement.{statement}
 use Rattle.instructions.proofs.forms.by_code.Tie as tie

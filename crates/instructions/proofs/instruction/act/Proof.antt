@@ -1,4 +1,4 @@
--- `instructions::instruction::act` meets its contract. Assumes nothing.
+-- `instructions::instruction::act` meets its contract.
 use mathlib.Core.Path.{refl}
 use borrow.Author.Needs.{needs}
 use Rattle.instructions.proofs.Readied.{reached}

@@ -1,6 +1,6 @@
 -- `instructions::lanes::lanes_of` meets its contract. The numbers are those of the plan.
 use borrow.Author.Needs.{needs}
-use Rattle.instructions.proofs.Planned.{planned}
+use Rattle.instructions.proofs.PlainNumbers.{planned}
 use Rattle.instructions.proofs.lanes.lanes_of.Statement.{statement}
 use Rattle.instructions.proofs.lanes.lanes_of.Tie as tie
 

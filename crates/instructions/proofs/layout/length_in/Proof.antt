@@ -1,4 +1,4 @@
--- `instructions::layout::length_in`: the left 16 bits are all that is left of the right 48. Assumes nothing.
+-- `instructions::layout::length_in`: the left 16 bits are all that is left of the right 48.
 use mathlib.Core.Path.{sym}
 use native.Mathlib.Nat.{mod-eq-of-lt}
 use lib.Pow.{shr-lt}

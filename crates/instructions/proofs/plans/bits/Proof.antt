@@ -1,4 +1,4 @@
--- `instructions::plans::bits` meets its contract. Assumes nothing.
+-- `instructions::plans::bits` meets its contract.
 use mathlib.Core.Path.{_∙_, ap}
 use borrow.Author.Needs.{needs}
 use Rattle.fields.specs.declared.units.BitAddress.{BitAddress}

@@ -1,4 +1,4 @@
--- `instructions::plans::control` meets its contract. Assumes nothing.
+-- `instructions::plans::control` meets its contract.
 use mathlib.Core.Bool.{Bool, not}
 use mathlib.Core.Path.{_∙_, sym, ap, ap₂}
 use Prim.Native.Nat.{ℕ}

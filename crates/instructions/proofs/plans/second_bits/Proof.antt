@@ -1,4 +1,4 @@
--- `instructions::plans::second_bits` meets its contract. Assumes nothing.
+-- `instructions::plans::second_bits` meets its contract.
 use mathlib.Core.Path.{_∙_, sym, ap}
 use borrow.Author.Needs.{needs}
 use borrow.Author.Tests.{eq-eqb, ne-eqb}

@@ -1,4 +1,4 @@
--- `instructions::scalars::byte_address`: an index in bytes. Assumes nothing.
+-- `instructions::scalars::byte_address`: an index in bytes.
 use borrow.Author.Needs.{needs}
 use Rattle.instructions.proofs.Addressed.{index-is}
 use Rattle.instructions.proofs.scalars.byte_address.Statement.{statement}

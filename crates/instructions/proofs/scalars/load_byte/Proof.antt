@@ -1,4 +1,4 @@
--- `instructions::scalars::load_byte`: the byte that is read is all of the word. Assumes nothing.
+-- `instructions::scalars::load_byte`: the byte that is read is all of the word.
 use borrow.Author.Needs.{needs}
 use denote.Ref.{now}
 use Rattle.instructions.proofs.Addressed.{loaded}

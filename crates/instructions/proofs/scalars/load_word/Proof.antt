@@ -1,4 +1,4 @@
--- `instructions::scalars::load_word`: the word that is read. Assumes nothing.
+-- `instructions::scalars::load_word`: the word that is read.
 use borrow.Author.Needs.{needs}
 use denote.Ref.{now}
 use Rattle.instructions.proofs.Addressed.{loaded-word}

@@ -1,4 +1,4 @@
--- `instructions::scalars::scalar`: each arm knows its code, at which the definition picks the arm's case; the last arm knows that no case fits. Assumes nothing.
+-- `instructions::scalars::scalar`: each arm knows its code, at which the definition picks the arm's case; the last arm knows that no case fits.
 use mathlib.Core.Logic.{inl, inr, ⊎-elim}
 use mathlib.Core.Path.{refl, sym, ap, _∙_}
 use Prim.Native.Nat.{ℕ}

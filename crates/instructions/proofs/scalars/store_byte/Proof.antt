@@ -1,4 +1,4 @@
--- `instructions::scalars::store_byte`: the right byte of T. Assumes nothing.
+-- `instructions::scalars::store_byte`: the right byte of T.
 use borrow.Author.Needs.{needs}
 use Rattle.instructions.proofs.Addressed.{right-byte}
 use Rattle.instructions.proofs.scalars.store_byte.Statement.{statement}

@@ -1,4 +1,4 @@
--- `instructions::scalars::store_word`: all of T. Assumes nothing.
+-- `instructions::scalars::store_word`: all of T.
 use borrow.Author.Needs.{needs}
 use Rattle.instructions.proofs.scalars.store_word.Statement.{statement}
 use Rattle.instructions.proofs.scalars.store_word.Tie as tie

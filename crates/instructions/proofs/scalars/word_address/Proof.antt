@@ -1,4 +1,4 @@
--- `instructions::scalars::word_address`: an index in words. Assumes nothing.
+-- `instructions::scalars::word_address`: an index in words.
 use borrow.Author.Needs.{needs}
 use Rattle.instructions.proofs.Addressed.{index-is}
 use Rattle.instructions.proofs.scalars.word_address.Statement.{statement}

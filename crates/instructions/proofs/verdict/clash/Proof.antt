@@ -1,4 +1,4 @@
--- `instructions::verdict::clash` meets its contract: a shared bit, unless the result is in place. Assumes nothing.
+-- `instructions::verdict::clash` meets its contract: a shared bit, unless the result is in place.
 use mathlib.Core.Path.{sym, _∙_}
 use borrow.Author.Needs.{needs}
 use Rattle.instructions.proofs.verdict.clash.Statement.{statement}

@@ -1,4 +1,4 @@
--- A line for each word that changed. Assumes nothing.
+-- A line for each word that changed.
 use native.Mathlib.Omega.{arith}
 use mathlib.Core.Path.{_≡_, refl}
 use Prim.Native.Nat.{_-_, _*_, _≤_}

@@ -1,4 +1,4 @@
--- A line for each register that changed. Assumes nothing.
+-- A line for each register that changed.
 use native.Mathlib.Omega.{arith}
 use mathlib.Core.Path.{refl}
 use Prim.Native.Nat.{_-_, _≤_}

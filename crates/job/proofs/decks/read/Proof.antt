@@ -1,4 +1,4 @@
--- A line after the other, up to the first that is wrong. Assumes nothing.
+-- A line after the other, up to the first that is wrong.
 use native.Mathlib.Omega.{arith}
 use borrow.Author.Needs.{needs}
 use mathlib.Core.Path.{_≡_, subst}

@@ -1,4 +1,4 @@
--- A deck that was read fits what is lent. Assumes nothing.
+-- A deck that was read fits what is lent.
 use borrow.Author.Needs.{needs}
 use mathlib.Core.Path.{subst}
 use Rattle.job.specs.Places.{FitsReading}

@@ -1,4 +1,4 @@
--- The memory that the deck says is a part of what is lent. Assumes nothing.
+-- The memory that the deck says is a part of what is lent.
 use native.Mathlib.Omega.{arith}
 use mathlib.Core.Path.{sym}
 use lib.Seq.{length-take-le}

@@ -1,4 +1,4 @@
--- The measure is how many lines are left. Assumes nothing.
+-- The measure is how many lines are left.
 use native.Mathlib.Omega.{arith}
 use Rattle.job.proofs.listing.from.Statement.{statement}
 use Rattle.job.proofs.listing.from.Tie as tie

@@ -1,4 +1,4 @@
--- The value is looked at before each digit, so that it stays within 64 bits. Assumes nothing.
+-- The value is looked at before each digit, so that it stays within 64 bits.
 use native.Mathlib.Omega.{arith}
 use native.Mathlib.Nat.{mul-le-mul}
 use Prim.Native.Nat.{ℕ, _-_, _*_, _≤_}

@@ -1,4 +1,4 @@
--- The place moves on over the run, and not past the end of the text. Assumes nothing.
+-- The place moves on over the run, and not past the end of the text.
 use native.Mathlib.Omega.{arith}
 use Prim.Native.Nat.{_-_}
 use lib.ListN.{length}

@@ -1,4 +1,4 @@
--- A line for each register that is not zero. Assumes nothing.
+-- A line for each register that is not zero.
 use native.Mathlib.Omega.{arith}
 use borrow.Author.Needs.{needs}
 use Prim.Native.Nat.{_-_, _≤_}

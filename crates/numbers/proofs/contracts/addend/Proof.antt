@@ -1,4 +1,4 @@
--- `numbers::contracts::addend` meets its contract. Assumes nothing.
+-- `numbers::contracts::addend` meets its contract.
 use mathlib.Core.Path.{sym, ap}
 use Rattle.numbers.specs.Contract.{addend}
 use Rattle.numbers.proofs.contracts.addend.Statement.{statement}

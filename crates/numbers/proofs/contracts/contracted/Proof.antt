@@ -1,4 +1,4 @@
--- `numbers::contracts::contracted` meets its contract. Assumes nothing.
+-- `numbers::contracts::contracted` meets its contract.
 use mathlib.Core.Bool.{Bool, true, false}
 use mathlib.Core.Path.{_≡_, _∙_, ap, ap₂}
 use Prim.Native.Nat.{_^_, _≤_}

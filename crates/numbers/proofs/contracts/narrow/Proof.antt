@@ -1,4 +1,4 @@
--- `numbers::contracts::narrow` meets its contract. Assumes nothing.
+-- `numbers::contracts::narrow` meets its contract.
 use mathlib.Core.Bool.{true, false}
 use mathlib.Core.Path.{_≡_, _∙_, ap, ap₂}
 use Prim.Native.Nat.{ℕ, _^_}

@@ -1,4 +1,4 @@
--- `numbers::contracts::places` meets its contract. Assumes nothing.
+-- `numbers::contracts::places` meets its contract.
 use mathlib.Core.Bool.{Bool, true, false, cond}
 use mathlib.Core.Path.{sym, ap}
 use Prim.Native.Nat.{_^_}

@@ -1,4 +1,4 @@
--- `numbers::division::capped` meets its contract. Assumes nothing.
+-- `numbers::division::capped` meets its contract.
 use borrow.Author.Needs.{needs}
 use lib.Dec.{lit<}
 use Rattle.numbers.proofs.Quotients.{far}

@@ -1,4 +1,4 @@
--- `numbers::division::divide` meets its contract. Assumes nothing.
+-- `numbers::division::divide` meets its contract.
 use mathlib.Core.Path.{_∙_, sym, ap}
 use Prim.Native.Nat.{_^_}
 use native.Mathlib.Omega.{arith}

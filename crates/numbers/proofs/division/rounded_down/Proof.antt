@@ -1,4 +1,4 @@
--- `numbers::division::rounded_down` meets its contract. Assumes nothing.
+-- `numbers::division::rounded_down` meets its contract.
 use mathlib.Core.Path.{_≡_, _∙_, sym, ap}
 use Prim.Native.Nat.{_/_, _^_}
 use borrow.Author.Needs.{needs}

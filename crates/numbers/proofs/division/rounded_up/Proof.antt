@@ -1,4 +1,4 @@
--- `numbers::division::rounded_up` meets its contract. Assumes nothing.
+-- `numbers::division::rounded_up` meets its contract.
 use mathlib.Core.Path.{_≡_, _∙_, ap}
 use Prim.Native.Nat.{_^_}
 use native.Mathlib.Omega.{arith}

@@ -1,4 +1,4 @@
--- `numbers::division::share` meets its contract. Assumes nothing.
+-- `numbers::division::share` meets its contract.
 use mathlib.Core.Path.{_∙_, ap}
 use Prim.Native.Nat.{_<_, _^_}
 use native.Mathlib.Omega.{arith}

@@ -1,4 +1,4 @@
--- `numbers::division::toward_zero` meets its contract. Assumes nothing.
+-- `numbers::division::toward_zero` meets its contract.
 use mathlib.Core.Path.{_≡_, _∙_, sym, ap}
 use Prim.Native.Nat.{suc, _/_, _^_}
 use native.Mathlib.Omega.{arith}

@@ -1,4 +1,4 @@
--- `numbers::shifts::move_right` meets its contract. Assumes nothing.
+-- `numbers::shifts::move_right` meets its contract.
 use Prim.Native.Nat.{_-_, _^_}
 use native.Mathlib.Nat.{div-le-self}
 use native.Mathlib.Omega.{arith}

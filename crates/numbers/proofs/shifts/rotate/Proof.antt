@@ -1,4 +1,4 @@
--- `numbers::shifts::rotate` meets its contract. Assumes nothing.
+-- `numbers::shifts::rotate` meets its contract.
 use mathlib.Core.Path.{_∙_, sym, ap}
 use borrow.Author.Needs.{needs}
 use Rattle.numbers.proofs.Rotations.{rotated-zero, rotated-or}

@@ -1,4 +1,4 @@
--- `numbers::shifts::shift` meets its contract. Assumes nothing.
+-- `numbers::shifts::shift` meets its contract.
 use borrow.Author.Needs.{needs}
 use borrow.Author.Tests.{lt-ltb, le-ltb}
 use Rattle.numbers.specs.Shift.{shiftOf}

@@ -1,4 +1,4 @@
--- `numbers::signs::bits` meets its contract. Assumes nothing.
+-- `numbers::signs::bits` meets its contract.
 use mathlib.Core.Path.{sym, ap}
 use Prim.Native.Nat.{_+_}
 use native.Mathlib.Nat.{mod-lt}

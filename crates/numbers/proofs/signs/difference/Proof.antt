@@ -1,4 +1,4 @@
--- `numbers::signs::difference` meets its contract. Assumes nothing.
+-- `numbers::signs::difference` meets its contract.
 use mathlib.Core.Path.{_∙_}
 use native.Mathlib.Omega.{arith}
 use borrow.Author.Needs.{needs}

@@ -1,4 +1,4 @@
--- `numbers::signs::flip` meets its contract. Assumes nothing.
+-- `numbers::signs::flip` meets its contract.
 use mathlib.Core.Path.{_∙_}
 use mir.Facts.{toZ-ofZ}
 use Rattle.numbers.proofs.Integers.{back, flip-is, mag-flip}

@@ -1,4 +1,4 @@
--- `numbers::signs::low` meets its contract. Assumes nothing.
+-- `numbers::signs::low` meets its contract.
 use native.Mathlib.Omega.{arith}
 use borrow.Author.Needs.{needs}
 use lib.Bits.{and-mask}

@@ -1,4 +1,4 @@
--- `numbers::signs::magnitude` meets its contract. Assumes nothing.
+-- `numbers::signs::magnitude` meets its contract.
 use borrow.Author.Needs.{needs}
 use lib.Signed.{mag}
 use Rattle.numbers.proofs.Integers.{natural-fits, natural-is, flipped, neg-false}

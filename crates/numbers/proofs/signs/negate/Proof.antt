@@ -1,4 +1,4 @@
--- `numbers::signs::negate` meets its contract. Assumes nothing.
+-- `numbers::signs::negate` meets its contract.
 use mathlib.Core.Path.{_∙_}
 use native.Mathlib.Omega.{arith}
 use mir.Facts.{toZ-ofZ}

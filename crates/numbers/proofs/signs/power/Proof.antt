@@ -1,4 +1,4 @@
--- `numbers::signs::power` meets its contract. Assumes nothing.
+-- `numbers::signs::power` meets its contract.
 use borrow.Author.Needs.{needs}
 use Rattle.numbers.proofs.Integers.{one-shl}
 use Rattle.numbers.proofs.signs.power.Statement.{statement}

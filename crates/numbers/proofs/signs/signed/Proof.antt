@@ -1,4 +1,4 @@
--- `numbers::signs::signed` meets its contract. Assumes nothing.
+-- `numbers::signs::signed` meets its contract.
 use mathlib.Core.Path.{_∙_}
 use Prim.Native.Nat.{_+_}
 use native.Mathlib.Nat.{mod-lt}

@@ -1,4 +1,4 @@
--- `numbers::signs::sum` meets its contract. Assumes nothing.
+-- `numbers::signs::sum` meets its contract.
 use mathlib.Core.Path.{_∙_}
 use native.Mathlib.Omega.{arith}
 use mir.Facts.{toZ-ofZ}

@@ -1,4 +1,4 @@
--- `numbers::whole::brought_to_zero` meets its contract. Assumes nothing.
+-- `numbers::whole::brought_to_zero` meets its contract.
 use mathlib.Core.Path.{_≡_, _∙_, sym, ap, ap₂}
 use Prim.Native.Nat.{ℕ, _+_, _^_}
 use native.Mathlib.Omega.{arith}

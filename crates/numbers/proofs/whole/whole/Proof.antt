@@ -1,4 +1,4 @@
--- `numbers::whole::whole` meets its contract. Assumes nothing.
+-- `numbers::whole::whole` meets its contract.
 use mathlib.Core.Bool.{true, false}
 use mathlib.Core.Path.{_≡_, _∙_, ap}
 use Prim.Native.Nat.{ℕ}

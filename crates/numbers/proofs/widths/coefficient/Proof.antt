@@ -1,4 +1,4 @@
--- `numbers::widths::coefficient` meets its contract. Assumes nothing.
+-- `numbers::widths::coefficient` meets its contract.
 use mathlib.Core.Path.{_∙_, ap}
 use Prim.Native.Nat.{_+_}
 use native.Mathlib.Nat.{mod-lt}

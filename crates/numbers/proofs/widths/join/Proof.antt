@@ -1,4 +1,4 @@
--- `numbers::widths::join` meets its contract. Assumes nothing.
+-- `numbers::widths::join` meets its contract.
 use mathlib.Core.Path.{_∙_, ap}
 use Prim.Native.Nat.{_+_}
 use native.Mathlib.Omega.{arith}

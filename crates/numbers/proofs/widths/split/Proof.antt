@@ -1,4 +1,4 @@
--- `numbers::widths::split` meets its contract. Assumes nothing.
+-- `numbers::widths::split` meets its contract.
 use mathlib.Core.Path.{_∙_}
 use borrow.Author.Needs.{needs}
 use Rattle.numbers.proofs.Integers.{back}

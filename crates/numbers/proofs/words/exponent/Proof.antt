@@ -1,4 +1,4 @@
--- `numbers::words::exponent` meets its contract. Assumes nothing.
+-- `numbers::words::exponent` meets its contract.
 use native.Mathlib.Omega.{arith}
 use borrow.Author.Needs.{needs}
 use lib.Dec.{lit<}

@@ -1,4 +1,4 @@
--- `numbers::words::left16_with` meets its contract. Assumes nothing.
+-- `numbers::words::left16_with` meets its contract.
 use Prim.Native.Nat.{_/_, _^_}
 use lib.Dec.{lit≤}
 use lib.Pow.{shr-lt}

@@ -1,4 +1,4 @@
--- `numbers::words::pack` meets its contract. Assumes nothing.
+-- `numbers::words::pack` meets its contract.
 use Prim.Native.Nat.{_%_, _^_}
 use native.Mathlib.Nat.{mod-lt}
 use borrow.Author.Needs.{needs}

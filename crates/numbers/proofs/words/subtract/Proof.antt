@@ -1,4 +1,4 @@
--- `numbers::words::subtract` meets its contract. Assumes nothing.
+-- `numbers::words::subtract` meets its contract.
 use borrow.Author.Needs.{needs}
 use Rattle.numbers.proofs.words.subtract.Statement.{statement}
 use Rattle.numbers.proofs.words.subtract.Tie as tie

@@ -1,4 +1,4 @@
--- `numbers::number::Number::half_word` meets its contract. Assumes nothing.
+-- `numbers::number::Number::half_word` meets its contract.
 use borrow.Author.Needs.{needs}
 use Rattle.numbers.proofs.Complements.{joined-lt}
 use Rattle.numbers.proofs.number.Number.half_word.Statement.{statement}
