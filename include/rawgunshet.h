@@ -47,7 +47,7 @@ RAWGUNSHET_ASSERT(sizeof(struct rawgunshet_record) == 40);
 #endif
 
 /*
- * What a call says. Checked in this order: 2, 3, a budget of 0, then at each instruction 4, 1 and 5 to 11; a 09 with operands is 6.
+ * What a call says. Checked in this order: 2, 3, a budget of 0, then at each instruction 4, 5, 6, 7, 1, 8, 9, 10, 11; a 09 with operands is 6.
  * 1 to 11 leave memory, registers and record as the last finished step left them, P at the exit or the refused word.
  */
 enum rawgunshet_number {

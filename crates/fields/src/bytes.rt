@@ -1,5 +1,5 @@
 // Items of the lent memory by index, from 0 at the left: k is an index of the slice, and a bit's index is eight times its byte's and its place there.
-// These ask for bounds. Only `memory` calls them, and the loops of the instructions layer after its verdict, which step by bytes and not by addresses.
+// These ask for bounds. `memory` calls them, the loops of the instructions layer, which step by bytes and not by addresses, and programs.
 //
 // A word is read from its right end and turned round, so that it is one load and a byte swap even where its value is then masked.
 ghost use mathlib.Core.Path.{_≡_};

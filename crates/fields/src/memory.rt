@@ -1,5 +1,5 @@
-// The lent memory at bit addresses. Each read and write asks that its place lies in memory and begins with a byte; the layer above calls it after its
-// verdict alone. Each contract says what is read, and what memory holds afterwards in every bit.
+// The lent memory at bit addresses. Each read and write asks that its place lies in memory and, but for a bit, begins with a byte: a caller proves that it
+// does, as the layer above does by its verdict. Each contract says what is read, and what memory holds afterwards in every bit.
 use crate::bytes;
 use crate::units::BitAddress;
 use crate::units::ByteCount;
