@@ -62,6 +62,26 @@ ascending k (l ∷ ls) = ltb k (l .code) && (meant (l .means) && ascending (l .c
 abbrev pub lengthRule : Line → Bool
 lengthRule l = Bool·beq (long (l .format)) (leb 0x80 (l .code)) && (long (l .format) || eqb (l .format) 0x4 || eqb (l .format) 0x7 || eqb (l .format) 0xA)
 
+-- the format goes with what the code does; 4 and A are those of register instructions, A without S (`formatARule`)
+abbrev pub formatIs : Meaning → ℕ → Bool
+formatIs unlisted f = false
+formatIs exits f = eqb f 0x4
+formatIs (acts (toT g)) f = eqb f 0x4 || eqb f 0xA
+formatIs (acts (toHalfT g)) f = eqb f 0xA
+formatIs (acts loadsByte) f = eqb f 0x7
+formatIs (acts loadsWord) f = eqb f 0x7
+formatIs (acts storesByte) f = eqb f 0x7
+formatIs (acts storesWord) f = eqb f 0x7
+formatIs (branches c) f = eqb f 0xC
+formatIs (works (gathers rule)) f = eqb f 0x7
+formatIs (works (eachOfAB g)) f = eqb f 0x1
+formatIs (works (eachOfA g)) f = eqb f 0x1
+formatIs (works (halfOfA g)) f = eqb f 0x1
+formatIs (works moves) f = eqb f 0x3
+
+abbrev pub formatRule : Line → Bool
+formatRule l = formatIs (l .means) (l .format)
+
 -- only a format with a G has allowed G bits
 abbrev pub allowedRule : Line → Bool
 allowedRule l = long (l .format) || eqb (l .allowed) 0
@@ -70,9 +90,11 @@ allowedRule l = long (l .format) || eqb (l .allowed) 0
 abbrev pub apartRule : Line → Bool
 apartRule l = ltb (zeroBits (rowOf l)) (2 ^ 56) && ltb (l .named) (2 ^ 56) && eqb (bitAnd (zeroBits (rowOf l)) (l .named)) 0
 
--- format A has eight zero bits where S would be
+-- format A has eight zero bits where S would be, and of format 4 no other than the exit has
 abbrev pub formatARule : Line → Bool
-formatARule l = not (eqb (l .format) 0xA) || eqb (bitAnd (l .zeros) atS) atS
+formatARule l =
+    (not (eqb (l .format) 0xA) || eqb (bitAnd (l .zeros) atS) atS)
+    && (not (eqb (l .format) 0x4) || eqb (l .code) 0x09 || eqb (bitAnd (l .zeros) atS) 0)
 
 -- the vectors are those of format 1; X and Y are zero there, G bit 1 is allowed, and Z may be 00 or not
 abbrev pub vectorRule : Line → Bool
@@ -121,7 +143,7 @@ abbrev pub exitRule : Line → Bool
 exitRule l = Bool·beq (ends (kindFor (l .means))) (eqb (l .code) 0x09)
 
 abbrev pub rule : Line → Bool
-rule l = lengthRule l && allowedRule l && apartRule l && formatARule l && vectorRule l && secondRule l && resultRule l && exitRule l
+rule l = lengthRule l && formatRule l && allowedRule l && apartRule l && formatARule l && vectorRule l && secondRule l && resultRule l && exitRule l
 
 pub codes-ascend : T (ascending 0 table)
 codes-ascend = tt

@@ -42,7 +42,7 @@ fn in_word(m: &[u8], at: usize, n: u64) -> u64
     part(w, (at % 64) as u64, n)
 }
 
-// v to them.
+// v to the n bits at bit `at`, which lie in one aligned word.
 fn to_word(m: &mut [u8], at: usize, n: u64, v: u64)
     requires { ⌜ Room (now m) at n × (at % 64 + n ≤ 64) × (v < 2 ^ n) ⌝ }
     ensures { λ r. ⌜ Kept (now (m .entry)) at n v (now (m .exit)) ⌝ }
@@ -69,7 +69,7 @@ fn run(m: &[u8], at: usize, n: u64) -> u64
     }
 }
 
-// v to them.
+// v to the n bits at any bit `at`.
 fn put_run(m: &mut [u8], at: usize, n: u64, v: u64)
     requires { ⌜ Room (now m) at n × (v < 2 ^ n) ⌝ }
     ensures { λ r. ⌜ Kept (now (m .entry)) at n v (now (m .exit)) ⌝ }
@@ -108,7 +108,7 @@ pub struct Cursor {
     pub s: usize,
 }
 
-// Where they begin.
+// Where the bits of R and of S begin, by plain numbers.
 fn two_sides(r: usize, second: SecondBits) -> Sides
     ensures { λ u. ⌜ u ≡ sidesOf r second ⌝ }
 {
@@ -154,7 +154,7 @@ fn one_period(rule: Rule, runs: Runs) -> Period
 }
 
 impl Cursor {
-    // At item i.
+    // At item i, of at most as many as the largest memory has bits: 8 times 65,536.
     fn at(sides: Sides, p: Period, i: usize) -> Cursor
         requires { ⌜ (0 < p .bits) × (i ≤ 524288) × Paced p × (sides .r < 2 ^ 48) × (sides .s < 2 ^ 48) ⌝ }
         ensures { λ u. ⌜ u ≡ cursorAt sides p i ⌝ }

@@ -54,6 +54,7 @@ impl Refusal {
     }
 }
 
+// A byte as a word: what a call returns is known to be the byte itself.
 fn wide(x: u8) -> u64
     ensures { λ r. ⌜ r ≡ x ⌝ }
 {
