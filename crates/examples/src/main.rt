@@ -1,5 +1,7 @@
 // Short jobs that reach every code, its refusals and the ends of the ranges, the scope paper's examples among them. What is written is held to the file
 // stdout, which was worked out by a model of its own.
+#![tactic(auto)]
+
 mod codes; // the listed codes by name
 mod one_job; // one instruction and exit: what is lent, and the line that says what came out
 mod of_codes; // every listed code, and every refusal that its word can meet

@@ -6,7 +6,7 @@ ghost use Rattle.fields.specs.Extents.{width_of, field_of, absent_field, aligned
 use crate::units::{BitAddress, BitCount, ByteCount, HalfWordCount, ORIGIN, WordCount};
 
 // What a field's items are.
-#[derive(Drop)]
+#[derive(Clone, Copy)]
 pub enum Unit {
     Bit,
     Byte,
@@ -15,7 +15,7 @@ pub enum Unit {
 }
 
 // Bits from an address on, and the unit that they are items of. Its end never wraps.
-#[derive(Drop)]
+#[derive(Clone, Copy)]
 pub struct Field {
     pub base: BitAddress,
     pub bits: BitCount,

@@ -6,7 +6,7 @@ ghost use Rattle.fields.specs.Private.Cycles.{past_of, Allowed};
 use crate::units::BitCount;
 
 // The lengths in R, S and T.
-#[derive(Drop)]
+#[derive(Clone, Copy)]
 pub struct Runs {
     pub r: u16,
     pub s: u16,
@@ -15,7 +15,7 @@ pub struct Runs {
 
 // Items that read a source in cycles: `long` items of each period, from place `from` on. The first of a cycle reads the bit `at` past the
 // cycle's start, and a cycle starts `stride` bits after the one before.
-#[derive(Drop)]
+#[derive(Clone, Copy)]
 struct Cycles {
     period: u64,
     from: u64,

@@ -9,19 +9,19 @@ pub const WRAP: u64 = 0x1_0000_0000_0000;
 // The first bit address of memory, the left bit of the first lent byte. Those below it are the registers'.
 pub const ORIGIN: u64 = 0x4000;
 
-#[derive(Drop)]
+#[derive(Clone, Copy)]
 pub struct BitAddress(pub u64);
 
-#[derive(Drop)]
+#[derive(Clone, Copy)]
 pub struct BitCount(pub u64);
 
-#[derive(Drop)]
+#[derive(Clone, Copy)]
 pub struct ByteCount(pub u64);
 
-#[derive(Drop)]
+#[derive(Clone, Copy)]
 pub struct HalfWordCount(pub u64);
 
-#[derive(Drop)]
+#[derive(Clone, Copy)]
 pub struct WordCount(pub u64);
 
 impl BitAddress {

@@ -82,7 +82,7 @@ fn put_run(m: &mut [u8], at: usize, n: u64, v: u64)
 }
 
 // Where R and S begin; S may be zeros.
-#[derive(Drop)]
+#[derive(Clone, Copy)]
 pub struct Sides {
     pub r: usize,
     pub some: bool,
@@ -91,7 +91,7 @@ pub struct Sides {
 
 // A period of the result: so many bits, the head of them from R. R goes on by `first` in a period, and S by `second`. Bit q of a period is bit q of
 // R's part of it, or past the head bit q - skipped of S's.
-#[derive(Drop)]
+#[derive(Clone, Copy)]
 pub struct Period {
     pub bits: usize,
     pub head: usize,
@@ -101,7 +101,7 @@ pub struct Period {
 }
 
 // Where the work stands: the place in the period, and where R's and S's parts of it begin.
-#[derive(Drop)]
+#[derive(Clone, Copy)]
 pub struct Cursor {
     pub place: usize,
     pub r: usize,

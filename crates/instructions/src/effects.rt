@@ -8,7 +8,7 @@ use fields::memory;
 use fields::units::BitAddress;
 
 // What changes. Numbers of registers are those of the word's designators.
-#[derive(Drop)]
+#[derive(Clone, Copy)]
 pub enum Effect {
     Nothing,
     Register { number: u8, value: u64 },
@@ -18,13 +18,13 @@ pub enum Effect {
 }
 
 // Where control goes: to the word that follows, or to a taken target.
-#[derive(Drop)]
+#[derive(Clone, Copy)]
 pub enum Next {
     Following,
     Target(BitAddress),
 }
 
-#[derive(Drop)]
+#[derive(Clone, Copy)]
 pub struct Outcome {
     pub effect: Effect,
     pub flags: u64,

@@ -76,7 +76,7 @@ fn next_p(next: Next, p: BitAddress, word: u64) -> BitAddress
 }
 
 // The next P, and the flags.
-#[derive(Drop)]
+#[derive(Clone, Copy)]
 pub struct Acted {
     pub p: u64,
     pub flags: u64,

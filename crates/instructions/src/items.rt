@@ -2,28 +2,28 @@
 use fields::gathers::Runs;
 
 // A word or a half word that is made, with the flags that it sets.
-#[derive(Drop)]
+#[derive(Clone, Copy)]
 pub struct Made {
     pub item: u64,
     pub flags: u64,
 }
 
 // Where a vector's source items are: from a bit of the lent memory on, or one value for all.
-#[derive(Drop)]
+#[derive(Clone, Copy)]
 pub enum Source {
     Field(usize),
     Value(u64),
 }
 
 // Which items are stored: every one, or where the control bit from `base` on is one, or zero.
-#[derive(Drop)]
+#[derive(Clone, Copy)]
 pub enum Control {
     Every,
     Where { base: usize, ones: bool },
 }
 
 // Where the items of a vector are. One with a single source has a value for `second`, and makes nothing of it.
-#[derive(Drop)]
+#[derive(Clone, Copy)]
 pub struct VectorPlan {
     pub first: Source,
     pub second: Source,
@@ -33,7 +33,7 @@ pub struct VectorPlan {
 }
 
 // Which of the bit instructions.
-#[derive(Drop)]
+#[derive(Clone, Copy)]
 pub enum Rule {
     Compress,
     Merge,
@@ -41,14 +41,14 @@ pub enum Rule {
 }
 
 // The S of a bit instruction: from a bit of the lent memory on, or zeros.
-#[derive(Drop)]
+#[derive(Clone, Copy)]
 pub enum SecondBits {
     From(usize),
     Zeros,
 }
 
 // A compress, merge or mask, with the lengths in R, S and T.
-#[derive(Drop)]
+#[derive(Clone, Copy)]
 pub struct BitPlan {
     pub rule: Rule,
     pub first: usize,
@@ -58,7 +58,7 @@ pub struct BitPlan {
 }
 
 // A move of `length` bytes, filled after them.
-#[derive(Drop)]
+#[derive(Clone, Copy)]
 pub struct MovePlan {
     pub source: usize,
     pub length: u16,

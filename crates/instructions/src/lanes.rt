@@ -5,7 +5,7 @@ ghost use Rattle.instructions.specs.Private.Loops.{lane_of, gating_of, lanes_for
 use crate::items::{Control, Source, VectorPlan};
 
 // A source by plain numbers: its first byte, or its value.
-#[derive(Drop)]
+#[derive(Clone, Copy)]
 pub struct Lane {
     pub field: bool,
     pub byte: usize,
@@ -13,7 +13,7 @@ pub struct Lane {
 }
 
 // A control field by its first bit, and the control bit of an item that is stored; without one all are.
-#[derive(Drop)]
+#[derive(Clone, Copy)]
 pub struct Gating {
     pub some: bool,
     pub bit: usize,
@@ -21,7 +21,7 @@ pub struct Gating {
 }
 
 // A vector by plain numbers: A, B, Z, and C by its first byte.
-#[derive(Drop)]
+#[derive(Clone, Copy)]
 pub struct Lanes {
     pub a: Lane,
     pub b: Lane,

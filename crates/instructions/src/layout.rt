@@ -13,7 +13,7 @@ use fields::units::{BitAddress, BitCount, ByteCount, HalfWordCount, WRAP, WordCo
 
 // A field of no bits is not there: a source that is broadcast or not used, the control field of Z 00, what nothing is read from, and all of an instruction that
 // has no items.
-#[derive(Drop)]
+#[derive(Clone, Copy)]
 pub struct Fields {
     pub result: Field,
     pub first: Field,

@@ -1,4 +1,6 @@
 // The listed instructions: their words, what refuses them, and what they do. What the layer above calls, in the way of a word:
+#![tactic(auto)]
+
 pub mod table; // the one constant table: a row for each function code
 pub mod words; // instruction words, read into parts and put together: refusals 5, 6, 7
 pub mod fetch; // the word at P: refusal 4

@@ -8,7 +8,7 @@ use crate::designators::designator;
 const MACHINE_ZERO: u64 = 0x8000_0000_0000_0000;
 
 // One value for each designator of a 64-bit word. R, S and T of a 32-bit word are g, x and a, and the others are those of number 00.
-#[derive(Drop)]
+#[derive(Clone, Copy)]
 pub struct Operands {
     pub g: u64,
     pub x: u64,

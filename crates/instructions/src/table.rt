@@ -34,7 +34,7 @@ const G_13: u8 = G_1 | G_3;
 const G_134: u8 = G_1 | G_3 | G_4;
 
 // What the designators of a code mean.
-#[derive(Drop)]
+#[derive(Clone, Copy)]
 pub enum Kind {
     // none
     Exit,
@@ -68,7 +68,7 @@ pub enum Kind {
 
 // Code, format (hex), allowed G bits, designators that are zero, designators where 00 has no meaning, kind.
 // A designator that is in neither of the two may be 00 or anything.
-#[derive(Drop)]
+#[derive(Clone, Copy)]
 pub struct Row(pub u8, pub u8, pub u8, pub u64, pub u64, pub Kind);
 
 // A row for each code, by its name.
@@ -263,7 +263,7 @@ impl Row {
     }
 }
 
-#[derive(Drop)]
+#[derive(Clone, Copy)]
 pub enum Found {
     At(Row),
     Nothing,

@@ -6,7 +6,7 @@ ghost use Rattle.instructions.specs.Words.{parts_of, joined, uncontrolled, not_z
 use crate::table::{Found, Row, find};
 
 // The eight bytes of a word, from the left. A 32-bit instruction stands in the left half: R, S and T are g, x and a, and the others are zero.
-#[derive(Drop)]
+#[derive(Clone, Copy)]
 pub struct Parts {
     pub f: u8,
     pub g: u8,
@@ -19,26 +19,26 @@ pub struct Parts {
 }
 
 // Why a word is refused by itself.
-#[derive(Drop)]
+#[derive(Clone, Copy)]
 pub enum Refusal {
     NotListed, // 5: function not in the table
     NotZero, // Refusal 6: a bit that is to be zero isn't
     NoMeaning, // 7: designator 00, or half word 00 or 01, where that has no meaning
 }
 
-#[derive(Drop)]
+#[derive(Clone, Copy)]
 pub enum Decoded {
     Listed(Row),
     Refused(Refusal),
 }
 
-#[derive(Drop)]
+#[derive(Clone, Copy)]
 pub enum Reading {
     Listed(Parts),
     Refused(Refusal),
 }
 
-#[derive(Drop)]
+#[derive(Clone, Copy)]
 pub enum Assembled {
     Word(u64),
     Refused(Refusal),

@@ -7,7 +7,7 @@ use check::same;
 // How many instructions `list` shows where it is not said.
 const LISTED: u32 = 32;
 
-#[derive(Drop)]
+#[derive(Clone, Copy)]
 pub enum Command {
     Run(u32),
     Step,
@@ -15,7 +15,7 @@ pub enum Command {
     Wrong(CommandFault),
 }
 
-#[derive(Drop)]
+#[derive(Clone, Copy)]
 enum Count {
     Is(u32),
     Wrong(CommandFault),

@@ -23,7 +23,7 @@ const REGISTERS: usize = 8;
 const WORDS: usize = 264;
 
 // The numbers of a deck, beside its memory and registers.
-#[derive(Drop)]
+#[derive(Clone, Copy)]
 pub struct Deck {
     pub bytes: usize,
     pub p: u64,
@@ -33,7 +33,7 @@ pub struct Deck {
     pub flags: u64,
 }
 
-#[derive(Drop)]
+#[derive(Clone, Copy)]
 pub enum Name {
     Memory,
     P,
@@ -47,27 +47,27 @@ pub enum Name {
 }
 
 // What a line says. `place` is the register or address, or 0.
-#[derive(Drop)]
+#[derive(Clone, Copy)]
 pub struct Entry {
     pub name: Name,
     pub place: u64,
     pub value: u64,
 }
 
-#[derive(Drop)]
+#[derive(Clone, Copy)]
 pub enum Line {
     Blank,
     Says(Entry),
     Wrong(LineFault),
 }
 
-#[derive(Drop)]
+#[derive(Clone, Copy)]
 pub enum Kept {
     Deck(Deck),
     Wrong(LineFault),
 }
 
-#[derive(Drop)]
+#[derive(Clone, Copy)]
 pub enum Reading {
     Deck(Deck),
     Wrong,
@@ -180,7 +180,7 @@ fn two(name: Name, place: Number, value: Number, left: Number) -> Line {
 }
 
 // The number that the next word is, and where the word ends.
-#[derive(Drop)]
+#[derive(Clone, Copy)]
 struct Scanned {
     number: Number,
     end: usize,

@@ -1,7 +1,7 @@
 // What can be wrong with a command or a deck, in words on standard error. Nothing is run then.
 use libc::STDERR_FILENO;
 
-#[derive(Drop)]
+#[derive(Clone, Copy)]
 pub enum CommandFault {
     NoSuch,
     NumberMissing,
@@ -10,7 +10,7 @@ pub enum CommandFault {
     WordsLeft,
 }
 
-#[derive(Drop)]
+#[derive(Clone, Copy)]
 pub enum LineFault {
     NoSuchName,
     NumberMissing,
@@ -26,7 +26,7 @@ pub enum LineFault {
     AddressHigh,
 }
 
-#[derive(Drop)]
+#[derive(Clone, Copy)]
 pub enum DeckFault {
     Long,
     NoMemory,

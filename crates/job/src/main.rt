@@ -1,4 +1,6 @@
 // Runs job decks: the first argument says what to do, and the deck is read from standard input. A rule of the machine stands nowhere here.
+#![tactic(auto)]
+
 mod command; // the words of the command line
 mod scan; // the words of a line, and the numbers that they are
 mod faults; // what can be wrong with a deck or a command, in words

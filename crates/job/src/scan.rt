@@ -6,13 +6,13 @@ ghost use Rattle.job.specs.Places.{Within};
 const MOST: u64 = 0x0FFF_FFFF_FFFF_FFFF;
 
 // A word of a line: the bytes of the text from `from` up to `to`. The two are the same where none is left.
-#[derive(Drop)]
+#[derive(Clone, Copy)]
 pub struct Word {
     pub from: usize,
     pub to: usize,
 }
 
-#[derive(Drop)]
+#[derive(Clone, Copy)]
 pub enum Number {
     Is(u64),
     Missing, // no digit
@@ -30,7 +30,7 @@ fn is_end(b: u8) -> bool {
 }
 
 // What a scan passes over.
-#[derive(Drop)]
+#[derive(Clone, Copy)]
 pub enum Run {
     Spaces,
     Word,

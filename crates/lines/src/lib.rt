@@ -1,4 +1,6 @@
 // A text on standard output, and a number behind it: the parts of a line that the programs write.
+#![tactic(auto)]
+
 use libc::STDOUT_FILENO;
 
 pub fn text(what: &[u8]) {

@@ -6,7 +6,7 @@ ghost use Rattle.numbers.specs.Quotient.{toward_zero, down, up, quotient};
 use crate::signs::{flip, negate, power};
 
 // How a quotient is rounded.
-#[derive(Drop)]
+#[derive(Clone, Copy)]
 pub enum Rounding {
     Zero,
     Down,

@@ -10,14 +10,14 @@ pub const FLAG_43: u64 = 0x10_0000;
 pub const FLAG_46: u64 = 0x2_0000;
 
 // A word, and the flags that it sets.
-#[derive(Drop)]
+#[derive(Clone, Copy)]
 pub struct WordResult {
     pub word: u64,
     pub flags: u64,
 }
 
 // A half word, and the flags that it sets.
-#[derive(Drop)]
+#[derive(Clone, Copy)]
 pub struct HalfWordResult {
     pub half: u32,
     pub flags: u64,

@@ -1,5 +1,7 @@
 // Numbers of the CYBER 200: two's complement exponents and coefficients, and what the listed instructions make of one or two words.
 // Nothing here knows of memory, registers or instruction words.
+#![tactic(auto)]
+
 pub mod contracts; // contract and rounded contract: 76, 77
 pub mod flags; // data flags, and results that set them
 pub mod number; // a number taken into exponent and coefficient, and put together

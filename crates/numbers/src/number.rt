@@ -5,7 +5,7 @@ ghost use Rattle.numbers.specs.Number.{split_at, joined_at};
 use crate::widths::{join, split};
 
 // Two's complement both. Of a part that is out of range the rightmost bits are put together.
-#[derive(Drop)]
+#[derive(Clone, Copy)]
 pub struct Number {
     pub exponent: i64,
     pub coefficient: i64,

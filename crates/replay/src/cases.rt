@@ -8,7 +8,7 @@ use libc::{STDERR_FILENO, STDIN_FILENO, STDOUT_FILENO};
 use runs::records::Record;
 
 // What a header says, but for the count of registers.
-#[derive(Drop)]
+#[derive(Clone, Copy)]
 struct Asked {
     size: usize,
     rec: Record,

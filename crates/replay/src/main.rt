@@ -12,6 +12,8 @@
 // branch that is taken four times, cut by 3, 9 the same with a budget of 4; 10 a memory of 12 bytes; 11 255 registers; 12 no memory and no registers; 13 a
 // record that is half done with no items; 14 one of all ones; 15 a function that is not listed, with the largest budget and part; 16 a header that asks for
 // 513 registers; 17 is not reached.
+#![tactic(auto)]
+
 mod cases; // a case, read, worked and answered
 mod parts; // the calls of a case
 mod words; // the words of a case and of its result

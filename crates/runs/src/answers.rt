@@ -3,7 +3,7 @@ ghost use Rattle.std.specs.Prelude.{◌≡◌};
 ghost use Rattle.runs.specs.Answers.{number_of, said_of, paused};
 ghost use Rattle.runs.specs.Private.Inner.{Tells};
 
-#[derive(Drop)]
+#[derive(Clone, Copy)]
 pub enum Answer {
     Paused,
     Exit,
@@ -40,7 +40,7 @@ pub fn number(answer: Answer) -> u64
 }
 
 // What the checks of an instruction say: the answer that ends the run, or that the step is taken.
-#[derive(Drop)]
+#[derive(Clone, Copy)]
 pub enum Said {
     Ends(Answer),
     Allows,

@@ -7,7 +7,7 @@ use crate::advances::{go, take_up};
 use crate::answers::Answer;
 use crate::records::Record;
 
-#[derive(Drop)]
+#[derive(Clone, Copy)]
 pub struct Outcome {
     pub answer: Answer,
     pub steps: u32,

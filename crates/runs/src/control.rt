@@ -10,7 +10,7 @@ use crate::performs::perform_one;
 use crate::records::Record;
 
 // A run under way. `answer` is `Paused` as long as no other is known.
-#[derive(Drop)]
+#[derive(Clone, Copy)]
 pub struct Control {
     pub rec: Record,
     pub left: u32,

@@ -1,4 +1,6 @@
 // The record, the control state, budgets and the call: a job's run that can be cut anywhere.
+#![tactic(auto)]
+
 pub mod answers; // what a call says
 pub mod records; // where a job stands between two calls
 pub mod control; // the control state: begin, step, finish

@@ -15,7 +15,7 @@ use instructions::instruction::{count, work};
 use instructions::operands::{Operands, gather};
 
 // One or more steps and the next record, or an answer and no change.
-#[derive(Drop)]
+#[derive(Clone, Copy)]
 pub enum Performed {
     Did { rec: Record, steps: u32 },
     Ended(Answer),

@@ -4,7 +4,7 @@ ghost use Rattle.runs.specs.Records.{half, between};
 
 // Every bit pattern is a record; 3 refuses those that no run can make. A host in C lends these five numbers in this order.
 #[repr(C)]
-#[derive(Drop)]
+#[derive(Clone, Copy)]
 pub struct Record {
     pub p: u64,
     pub mark: u64,

@@ -8,7 +8,7 @@ use instructions::instruction::act;
 use instructions::operands::gather;
 
 // Nothing is half done at P; so many steps are left.
-#[derive(Drop)]
+#[derive(Clone, Copy)]
 pub struct Pace {
     pub p: u64,
     pub flags: u64,

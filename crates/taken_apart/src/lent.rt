@@ -6,7 +6,7 @@ use runs::calls::Outcome;
 use runs::control::Control;
 use runs::records::Record;
 
-#[derive(Drop)]
+#[derive(Clone, Copy)]
 pub struct Lent {
     pub m: [u8; 64],
     pub registers: [u64; 256],

@@ -1,5 +1,7 @@
 // Runs taken apart into begin, step, .., finish beside the one call, and words taken apart into parts and put together again. What is written is held to the
 // file stdout, which was worked out by a model of its own.
+#![tactic(auto)]
+
 mod jobs; // memory and registers by value: the jobs that are run
 mod lent; // what a run is lent and what it leaves, in lines
 mod of_refusals; // runs that begin refuses

@@ -7,14 +7,14 @@ use runs::control::Control;
 use runs::records::Record;
 
 // What a run has left.
-#[derive(Drop)]
+#[derive(Clone, Copy)]
 struct End {
     lent: Lent,
     outcome: Outcome,
 }
 
 // A run under way.
-#[derive(Drop)]
+#[derive(Clone, Copy)]
 struct Under {
     lent: Lent,
     control: Control,

@@ -277,7 +277,7 @@ pub fn refused() {
 }
 
 // F and G, X and A, Y and B, Z and C.
-#[derive(Drop)]
+#[derive(Clone, Copy)]
 struct Pair(u8, u8);
 
 fn four_pairs(fg: Pair, xa: Pair, yb: Pair, zc: Pair) {

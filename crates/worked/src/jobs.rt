@@ -6,7 +6,7 @@ use runs::records::Record;
 use runs::{answers, calls};
 
 // Two words next to each other.
-#[derive(Drop)]
+#[derive(Clone, Copy)]
 pub struct Pair(pub u64, pub u64);
 
 // A line's beginning: the code in the left 8 bits of the word, and where the case stands.
@@ -46,7 +46,7 @@ pub fn on_registers(word: u64, what: &[u8], operands: Pair, t: usize) {
 }
 
 // The descriptors of three fields, which registers 10, 11 and 12 hold.
-#[derive(Drop)]
+#[derive(Clone, Copy)]
 pub struct Descriptors(pub u64, pub u64, pub u64);
 
 // The sources are two words at 4080 and two at 4100; the words at 4180 and 41C0 are shown.

@@ -1,5 +1,7 @@
 // The cases that documents 000 and 003 work out themselves, run as jobs. What is written is held to the file stdout, whose lines were worked out from the
 // documents: a line names the code, the document and its place. docs/DOCUMENTS.md, section 10, lists them by code.
+#![tactic(auto)]
+
 mod jobs; // one instruction and exit: what is lent, and the line that says what came out
 mod of_branches; // 09, B0 to B5: how instructions are packed, the sums that C receives, and the order of numbers
 mod of_fields; // 14 to 16, 7E, 7F, F8, and the lengths at which vectors end
