@@ -1,0 +1,6 @@
+-- The field is made of the bits that the count shifts to.
+use Rattle.fields.proofs.Compared.{made}
+use Rattle.fields.proofs.extents.Field.of_bytes.Goals as goal
+
+pub returns : goal.returns
+returns c = made _ _ _ _ c.shifted-bits.ensures

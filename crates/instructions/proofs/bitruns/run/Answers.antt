@@ -1,0 +1,58 @@
+-- `instructions::bitruns::run` meets its contract. Bits in one word, or in two side by side.
+use mathlib.Core.Path.{◌≡◌, ap, ◌∙◌}
+use Prim.Native.Nat.{ℕ, ◌+◌, ◌-◌, ◌%◌}
+use native.Mathlib.Omega.{arith}
+use borrow.Author.Rules.{rules}
+use Rattle.fields.specs.Bytes.{num, size}
+use Rattle.fields.specs.Field.{field}
+use Rattle.instructions.proofs.Wordwise.{joined_bits}
+use Rattle.instructions.proofs.bitruns.run.Goals as goal
+
+pub run_spec : {M : Type 1} → statement M
+run_spec =
+    goal.close
+    (goal.spec
+    sub-h
+    in-word-requires
+    sub-l
+    in-word-requires-2
+    add-in-word
+    in-word-requires-3
+    shl-result
+    returns
+    returns-2)
+
+pub overflow_sub-h : goal.overflow_sub-h
+overflow_sub-h c = search rules
+
+pub in_word-requires : goal.in_word-requires
+in_word-requires c = search rules
+
+pub overflow_sub-l : goal.overflow_sub-l
+overflow_sub-l c = search rules
+
+pub in_word-x-requires : goal.in_word-x-requires
+in_word-x-requires c = search rules
+
+pub overflow_add-at : goal.overflow_add-at
+overflow_add-at c = search rules
+
+pub in_word-y-requires : goal.in_word-y-requires
+in_word-y-requires c = search rules
+
+pub overflow_shl-result : goal.overflow_shl-result
+overflow_shl-result c = search rules
+
+pub returns-then-n-h : goal.returns-then-n-h
+returns-then-n-h c = search rules
+
+pub returns-else-n-h : goal.returns-else-n-h
+returns-else-n-h c =
+    let in-word3 = c.in_word-y in
+    let in-word2 = c.in_word-x in
+    let a = c.args in
+    let h : ℕ = 64 - a.at % 64 in
+    let l : ℕ = a.n - h in
+    let e : h + l ≡ a.n = omega arith in
+    joined_bits (size a.m.now) a.at h l (num a.m.now) in-word2.result in-word3.result (omega arith) (omega arith) in-word2.ensures in-word3.ensures
+    ∙ ap (λ (n : ℕ). field (size a.m.now) a.at n (num a.m.now)) e

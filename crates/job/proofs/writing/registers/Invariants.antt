@@ -1,0 +1,9 @@
+-- A line for each register that is not zero.
+use Rattle.std.proofs.Common.{◌-◌, ◌≤◌, length}
+use Rattle.job.proofs.writing.registers.Given as goal
+
+abbrev pub invariant-loop-i : goal.invariant-loop-i
+invariant-loop-i l = l.i ≤ length l.values
+
+abbrev pub decreases-loop-i : goal.decreases-loop-i
+decreases-loop-i l = length l.values - l.i

@@ -1,0 +1,36 @@
+-- `numbers::contracts::narrow` meets its contract.
+use mathlib.Core.Bool.{true, false}
+use mathlib.Core.Path.{◌≡◌, ◌∙◌, ap, ap₂}
+use Prim.Native.Nat.{ℕ, ◌^◌}
+use native.Mathlib.Omega.{arith}
+use lib.IntN.{ℤ, pos, ◌+ℤ◌}
+use lib.Signed.{le_z}
+use mir.Facts.{to_z_pos}
+use mir.Syntax.{w64}
+use mir.Val.{to_z, of_z}
+use Rattle.numbers.proofs.Integers.{back, test_of}
+use Rattle.numbers.specs.Contract.{narrowed}
+use Rattle.numbers.specs.Flags.{half_word_result}
+use Rattle.numbers.specs.Number.{joined_at}
+use Rattle.numbers.specs.Quotient.{down}
+use Rattle.numbers.proofs.contracts.narrow.Goals as goal
+
+-- the exponent that is left
+grown : (c : goal.After-sum-y) → to_z w64 (of_z w64 c.sum-y.result) ≡ c.args.x +ℤ pos c.args.g
+grown c =
+    back _ c.sum-y.type_inv ∙ c.sum-y.ensures ∙ rw (back c.args.x c.ranges.x.sfits, to_z_pos w64 {n = c.args.g} (omega arith))
+
+pub sum-y-requires : goal.sum-y-requires
+sum-y-requires c = (rw (back c.args.x c.ranges.x.sfits) (omega arith), rw (to_z_pos w64 {n = c.args.g} (omega arith)) (omega arith))
+
+pub returns-then-y-ge112 : goal.returns-then-y-ge112
+unfolding narrowed
+returns-then-y-ge112 c = rw (test_of (λ (z : ℤ). le_z (pos 0x70) z) c.sum-y.result _ true (grown c) c.if-y-ge112.true)
+
+pub returns : goal.returns
+unfolding narrowed
+returns c = rw (test_of (λ (z : ℤ). le_z (pos 0x70) z) c.sum-y.result _ false (grown c) c.if-y-ge112.false)
+    (ap (λ (n : ℕ). half_word_result n 0)
+    (c.half_word.ensures
+    ∙ ap₂ (λ (x s : ℤ). joined_at 7 23 (record { exponent = x; coefficient = s })) (grown c)
+    (back _ c.divide.type_inv ∙ c.divide.ensures ∙ ap (λ (z : ℤ). down z (2 ^ c.args.g)) (back c.args.s c.ranges.s.sfits))))
