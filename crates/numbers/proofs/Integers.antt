@@ -39,7 +39,7 @@ one_shl h p = ap (λ (x : ℕ). x % 2 ^ 64) (one-mul (2 ^ h)) ∙ mod-eq_of_lt (
 -- ---- a local of a signed type holds bits: what is read back of a number that fits is the number
 
 pub back : (z : ℤ) → mag z < 2 ^ 63 → to_z w64 (of_z w64 z) ≡ z
-back z h = to_z-of_z (record { sfits = h })
+back z h = to_z-of_z {w = w64} {z = z} (record { sfits = h })
 
 -- ---- differences of natural numbers
 

@@ -12,5 +12,5 @@ returns c =
     record {
       as_long = simp length-set;
       holds = ap (λ (y : ℕ). num (set a.m.now (a.at / 8) y)) c.with_bit.ensures
-          ∙ bit_store a.m.now a.at a.v (λ (k : ℕ). (c.type_inv.m k).fits) c.requires.1 c.requires.0;
+          ∙ bit_store a.m.now a.at a.v (λ (k : ℕ). (c.slice_known-1.given k).fits) c.requires.1 c.requires.0;
     }

@@ -13,5 +13,5 @@ returns c =
     record {
       as_long = simp length-set;
       holds = ap (λ (y : ℕ). num (set a.m.now a.k y)) (c.low.ensures ∙ mod-eq_of_lt c.requires.1)
-          ∙ byte_store a.m.now a.k a.v (λ (i : ℕ). (c.type_inv.m i).fits) c.requires.1 c.requires.0;
+          ∙ byte_store a.m.now a.k a.v (λ (i : ℕ). (c.slice_known-1.given i).fits) c.requires.1 c.requires.0;
     }

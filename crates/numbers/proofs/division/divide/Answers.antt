@@ -13,12 +13,12 @@ rounded_down-requires c = rw (back c.args.z c.ranges.z.sfits) (omega arith)
 
 pub returns-in-Zero : goal.returns-in-Zero
 returns-in-Zero c = back _ c.toward_zero.type_inv ∙ c.toward_zero.ensures ∙ ap (λ (y : ℤ). toward_zero y (2 ^ c.args.k)) (back c.args.z c.ranges.z.sfits)
-    ∙ sym (ap (λ (m : Rounding). quotient m c.args.z (2 ^ c.args.k)) c.in-Zero.is.1)
+    ∙ sym (ap (λ (m : Rounding). quotient m c.args.z (2 ^ c.args.k)) c.in-Zero.is)
 
 pub returns-in-Down : goal.returns-in-Down
 returns-in-Down c = back _ c.rounded_down.type_inv ∙ c.rounded_down.ensures ∙ ap (λ (y : ℤ). down y (2 ^ c.args.k)) (back c.args.z c.ranges.z.sfits)
-    ∙ sym (ap (λ (m : Rounding). quotient m c.args.z (2 ^ c.args.k)) c.in-Down.is.1)
+    ∙ sym (ap (λ (m : Rounding). quotient m c.args.z (2 ^ c.args.k)) c.in-Down.is)
 
 pub returns-in-Up : goal.returns-in-Up
 returns-in-Up c = back _ c.rounded_up.type_inv ∙ c.rounded_up.ensures ∙ ap (λ (y : ℤ). up y (2 ^ c.args.k)) (back c.args.z c.ranges.z.sfits)
-    ∙ sym (ap (λ (m : Rounding). quotient m c.args.z (2 ^ c.args.k)) c.in-Up.is.1)
+    ∙ sym (ap (λ (m : Rounding). quotient m c.args.z (2 ^ c.args.k)) c.in-Up.is)

@@ -9,18 +9,15 @@ use Rattle.numbers.proofs.Integers.{back, is_natural, flipped, flip_is, flip_z, 
 use Rattle.numbers.proofs.Quotients.{down_below, down_above}
 use Rattle.numbers.proofs.division.rounded_down.Goals as goal
 
-flip_seen : (c : goal.After-flip) → to_z w64 (of_z w64 c.flip.result) ≡ pos (mag c.args.z)
-flip_seen c = back _ c.flip.type_inv ∙ flipped c.flip.result c.args.z c.flip.ensures c.ranges.z.sfits c.if-z-lt0.true
-
 pub share-requires : goal.share-requires
-share-requires c = is_natural _ (mag c.args.z) (flip_seen c) c.requires
+share-requires c = is_natural _ (mag c.args.z) (back _ c.flip.type_inv ∙ flipped c.flip.result c.args.z c.flip.ensures c.ranges.z.sfits c.if-z-lt0.true) c.requires
 
 pub share-requires-else-z-lt0 : goal.share-requires-else-z-lt0
 share-requires-else-z-lt0 c = is_natural _ (mag c.args.z) (back c.args.z c.ranges.z.sfits ∙ neg_false c.args.z c.ranges.z.sfits c.if-z-lt0.false) c.requires
 
 pub returns-then-z-lt0 : goal.returns-then-z-lt0
 returns-then-z-lt0 c = back _ c.flip-then-z-lt0.type_inv ∙ c.flip-then-z-lt0.ensures ∙ flip_is (to_z w64 (of_z w64 c.share.result))
-    ∙ ap flip_z (back _ c.share.type_inv ∙ c.share.ensures ∙ ap (λ (y : ℤ). pos (mag y / 2 ^ c.args.k)) (flip_seen c))
+    ∙ ap flip_z (back _ c.share.type_inv ∙ c.share.ensures ∙ ap (λ (y : ℤ). pos (mag y / 2 ^ c.args.k)) (back _ c.flip.type_inv ∙ flipped c.flip.result c.args.z c.flip.ensures c.ranges.z.sfits c.if-z-lt0.true))
     ∙ sym (down_below c.args.z (2 ^ c.args.k) (neg_true c.args.z c.ranges.z.sfits c.if-z-lt0.true))
 
 pub returns-else-z-lt0 : goal.returns-else-z-lt0
