@@ -1,6 +1,6 @@
 -- The list of `Codes` holds: each line is what the definitions make of the meaning that the table gives its code.
 use mathlib.Core.Path.{◌≡◌, refl, sym, ap, ap₂, ◌∙◌}
-use mathlib.Core.List.{List, ◌∷◌, map}
+use mathlib.Core.List.{List, [], ◌∷◌, map}
 use mathlib.Core.Bool.{Bool, true, false, cond, not, ◌&&◌, ◌||◌}
 use Prim.Native.Nat.{ℕ, zero, suc, ◌+◌, ◌*◌, ◌%◌, ◌^◌, ◌≤◌, ◌<◌}
 use native.Mathlib.Nat.{mod-lt, mod-eq_of_lt, zero-mul}
@@ -228,6 +228,7 @@ module _ (s : Before) (lent : right_length s.bytes ≡ true) (passes : verdict_o
 
 -- an element of a list that was made of another's
 made_of : {A B : Type 0} (f : A → B) (y : B) (xs : List A) → In y (map f xs) → (x : A) × (In x xs × (y ≡ f x))
+made_of f y [] x' = elim x' [ ]
 made_of f y (x ∷ xs) here = (x, (here, refl))
 made_of f y (x ∷ xs) (there i) = let r = made_of f y xs i in (r.0, (there r.1.0, r.1.1))
 

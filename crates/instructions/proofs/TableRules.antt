@@ -158,16 +158,16 @@ pub data In {A : Type 0} (l : A) : List A → Type 0 where
   here : {ls : List A} → In l (l ∷ ls)
   there : {x : A} {ls : List A} → In l ls → In l (x ∷ ls)
 
-above : (k : ℕ) {l : Line} {ls : List Line} → In l ls → T (ascending k ls) → k < l.code
-above k {l} here t = ltb→lt k l.code (and_first (ltb k l.code) _ t)
-above k {l} (there {x} {ls} i) t =
+above : {l : Line} (k : ℕ) {ls : List Line} → In l ls → T (ascending k ls) → k < l.code
+above {l} k here t = ltb→lt k l.code (and_first (ltb k l.code) _ t)
+above {l} k (there {x} {ls} i) t =
     let lower = ltb→lt k x.code (and_first (ltb k x.code) _ t) in
     let later = above x.code i (and_rest (meant x.means) _ (and_rest (ltb k x.code) _ t)) in
     omega arith
 
-looked_up : {B : Type 0} (says : Line → B) (else : B) (k : ℕ) {l : Line} {ls : List Line} → In l ls → T (ascending k ls) → look_up (λ x. x.code) says else l.code ls ≡ says l
-looked_up says else k {l} here t = rw (eq-eqb l.code l.code refl)
-looked_up says else k {l} (there {x} {ls} i) t =
+looked_up : {B : Type 0} {l : Line} (says : Line → B) (else : B) (k : ℕ) {ls : List Line} → In l ls → T (ascending k ls) → look_up (λ x. x.code) says else l.code ls ≡ says l
+looked_up {l = l} says else k here t = rw (eq-eqb l.code l.code refl)
+looked_up {l = l} says else k (there {x} {ls} i) t =
     let rest = and_rest (meant x.means) _ (and_rest (ltb k x.code) _ t) in
     let later = above x.code i rest in
     rw (ne_eqb l.code x.code (λ e. omega arith)) (looked_up says else x.code i rest)

@@ -37,7 +37,7 @@ earliest (k ∷ ks) c n h e = go (λ q. earliest ks c n h q) (k.refuses c) refl 
     go rest true t q = here q t
     go rest false t q = later t (rest q)
 
-answers : {ks : List NumberedCheck} {c : Case} {n : ℕ} → Earliest n c ks → first_number ks c ≡ n
+answers : {n : ℕ} {c : Case} {ks : List NumberedCheck} → Earliest n c ks → first_number ks c ≡ n
 answers (here e t) = rw t e
 answers (later t q) = rw t (answers q)
 
@@ -50,7 +50,7 @@ passes (k ∷ ks) c h e = go (λ q. passes ks c (and_rest (ltb 0 k.number) (ever
     go rest true t q = let p = ltb→lt 0 k.number (and_first (ltb 0 k.number) (every (λ j. ltb 0 j.number) ks) h) in absurd (omega arith)
     go rest false t q = next t (rest q)
 
-passed : {ks : List NumberedCheck} {c : Case} → Passes c ks → first_number ks c ≡ 0
+passed : {c : Case} {ks : List NumberedCheck} → Passes c ks → first_number ks c ≡ 0
 passed end = refl
 passed (next t q) = rw t (passed q)
 

@@ -8,20 +8,6 @@ use Rattle.fields.specs.Field.{field}
 use Rattle.instructions.proofs.Wordwise.{joined_bits}
 use Rattle.instructions.proofs.bitruns.run.Goals as goal
 
-pub run_spec : {M : Type 1} → statement M
-run_spec =
-    goal.close
-    (goal.spec
-    sub-h
-    in-word-requires
-    sub-l
-    in-word-requires-2
-    add-in-word
-    in-word-requires-3
-    shl-result
-    returns
-    returns-2)
-
 pub overflow_sub-h : goal.overflow_sub-h
 overflow_sub-h c = search rules
 

@@ -23,4 +23,4 @@ pub returns-in-181 : goal.returns-in-181
 returns-in-181 c = compared _ _ _ c.in-181.is c.less-in-181.ensures
 
 pub returns-in_default : goal.returns-in_default
-returns-in_default c = not_compared _ _ _ c.args.code c.in_default.rest
+returns-in_default c = not_compared _ _ _ c.args.code c.in_default.in_default-own.rest

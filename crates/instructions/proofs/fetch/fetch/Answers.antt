@@ -4,9 +4,6 @@ use borrow.Author.Rules.{rules}
 use Rattle.instructions.specs.Fetch.{fetch_of}
 use Rattle.instructions.proofs.fetch.fetch.Goals as goal
 
-pub fetch_spec : {M : Type 1} → statement M
-fetch_spec = goal.close (goal.spec word-at-requires is-long-requires returns returns-2)
-
 pub word_at-word-requires : goal.word_at-word-requires
 word_at-word-requires c = search rules
 

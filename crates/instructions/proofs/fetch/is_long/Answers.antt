@@ -12,8 +12,8 @@ returns-then-word-lt9223372036854775808 c = short_word c.args.word c.if-word-lt9
 
 pub returns-in-Nothing : goal.returns-in-Nothing
 unfolding long_in
-returns-in-Nothing c = row_found false (λ (r : Row). long (format_of r)) c.args.word c.code_in.result c.find-found.result _ c.code_in.ensures.0 c.find-found.ensures c.in-Nothing.is.1
+returns-in-Nothing c = row_found false (λ (r : Row). long (format_of r)) c.args.word c.code_in.result c.find-found.result _ c.code_in.ensures.0 c.find-found.ensures c.in-Nothing.is
 
 pub returns-in-At : goal.returns-in-At
 unfolding long_in
-returns-in-At c = c.long.ensures ∙ row_found false (λ (r : Row). long (format_of r)) c.args.word c.code_in.result c.find-found.result _ c.code_in.ensures.0 c.find-found.ensures c.in-At.is.1
+returns-in-At c = c.long.ensures ∙ row_found false (λ (r : Row). long (format_of r)) c.args.word c.code_in.result c.find-found.result _ c.code_in.ensures.0 c.find-found.ensures c.in-At.is

@@ -7,12 +7,12 @@ use Rattle.instructions.proofs.fetch.there.Goals as goal
 
 pub returns-then-p-ne0 : goal.returns-then-p-ne0
 returns-then-p-ne0 c =
-    there_is c.args.p.0 c.args.half-words c.args.lent.0 c.requires.0 c.requires.1 false (λ e. absurd (false≢true e)) (λ e l w. absurd (c.if-p-ne0.true w))
+    there_is c.args.p.0 c.args.half_words c.args.lent.0 c.requires.0 c.requires.1 false (λ e. absurd (false≢true e)) (λ e l w. absurd (c.if-p-ne0.true w))
 
 pub returns-then-p-lt-ORIGIN : goal.returns-then-p-lt-ORIGIN
 returns-then-p-lt-ORIGIN c =
-    there_is c.args.p.0 c.args.half-words c.args.lent.0 c.requires.0 c.requires.1 false (λ e. absurd (false≢true e)) (λ e l w. absurd (omega (arith, l, c.if-p-lt-ORIGIN.true)))
+    there_is c.args.p.0 c.args.half_words c.args.lent.0 c.requires.0 c.requires.1 false (λ e. absurd (false≢true e)) (λ e l w. absurd (omega (arith, l, c.if-p-lt-ORIGIN.true)))
 
 pub returns : goal.returns
 returns c =
-    there_is c.args.p.0 c.args.half-words c.args.lent.0 c.requires.0 c.requires.1 _ (λ e. (omega arith, (leb-true _ _ e, omega arith))) (λ e l w. leb-false _ _ e)
+    there_is c.args.p.0 c.args.half_words c.args.lent.0 c.requires.0 c.requires.1 _ (λ e. (omega arith, (leb-true _ _ e, omega arith))) (λ e l w. leb-false _ _ e)

@@ -107,6 +107,6 @@ returns-in-152 c =
 
 pub returns-in_default : goal.returns-in_default
 returns-in_default c =
-    let w = not_wide c.args.code c.in_default.rest in
+    let w = not_wide c.args.code c.in_default.in_default-own.rest in
     let some = c.requires.1.some in
     absurd (omega arith)

@@ -9,11 +9,11 @@ use Rattle.instructions.proofs.instruction.by_items.Goals as goal
 pub returns-in-Nothing : goal.returns-in-Nothing
 unfolding by_items
 returns-in-Nothing c =
-    let e = sym (ap found c.code_in.ensures.0) ∙ sym c.find-found.ensures ∙ c.in-Nothing.is.1 in
+    let e = sym (ap found c.code_in.ensures.0) ∙ sym c.find-found.ensures ∙ c.in-Nothing.is in
     sym (ap goes_by_items (its_none _ e))
 
 pub returns-in-At : goal.returns-in-At
 unfolding by_items
 returns-in-At c =
-    let e = sym (ap found c.code_in.ensures.0) ∙ sym c.find-found.ensures ∙ c.in-At.is.1 in
+    let e = sym (ap found c.code_in.ensures.0) ∙ sym c.find-found.ensures ∙ c.in-At.is in
     c.has_items.ensures ∙ (its _ _ e).items

@@ -8,24 +8,6 @@ use Rattle.instructions.proofs.Counting.{counted_at, length_counts}
 use borrow.Author.Rules.{rules}
 use Rattle.instructions.proofs.instruction.count.Goals as goal
 
-pub count_spec : {M : Type 1} → statement M
-count_spec =
-    goal.close
-    (goal.spec
-    code-in-requires
-    runs-requires
-    compress-items-requires
-    runs-requires-2
-    merge-items-requires
-    runs-requires-3
-    merge-items-requires-2
-    run-in-requires
-    cast-result
-    returns
-    returns-2
-    returns-3
-    returns-4)
-
 pub code_in-requires : goal.code_in-requires
 code_in-requires c = search rules
 
@@ -70,4 +52,4 @@ returns-in-22 c =
 
 pub returns-in_default : goal.returns-in_default
 returns-in_default c =
-    length_counts c.args.word c.args.o c.code_in.ensures.0 c.in_default.rest c.run_in.ensures
+    length_counts c.args.word c.args.o c.code_in.ensures.0 c.in_default.in_default-own.rest c.run_in.ensures

@@ -6,4 +6,4 @@ use Rattle.instructions.proofs.instruction.next_p.Goals as goal
 
 pub returns-in-Following : goal.returns-in-Following
 returns-in-Following c =
-    rw c.in-Following.is.1 (c.plus.ensures ∙ ap (λ (k : ℕ). formed c.args.p.0 k) c.length_of.ensures)
+    rw c.in-Following.is (c.plus.ensures ∙ ap (λ (k : ℕ). formed c.args.p.0 k) c.length_of.ensures)

@@ -41,7 +41,7 @@ moved-requires-in-248 c =
 pub vector-requires-in_default : goal.vector-requires-in_default
 vector-requires-in_default c =
     let a = c.args in
-    let is = (vector_plans a.p a.word a.o _ c.vector.result c.code_in-code.ensures.0 c.requires.2 c.requires.1 c.in_default.rest c.vector.ensures) in
+    let is = (vector_plans a.p a.word a.o _ c.vector.result c.code_in-code.ensures.0 c.requires.2 c.requires.1 c.in_default.in_default-own.rest c.vector.ensures) in
     vector_asks a.memory.now a.p a.word a.o c.vector.result c.code_in-code.result a.from a.count is.0 is.1 c.requires.0 c.requires.1 c.requires.2 c.requires.3 c.if-count-eq0.false
 
 pub returns-in-20 : goal.returns-in-20
@@ -71,6 +71,6 @@ returns-in-248 c =
 pub returns-in_default : goal.returns-in_default
 returns-in_default c =
     let a = c.args in
-    let is = (vector_plans a.p a.word a.o _ c.vector.result c.code_in-code.ensures.0 c.requires.2 c.requires.1 c.in_default.rest c.vector.ensures) in
+    let is = (vector_plans a.p a.word a.o _ c.vector.result c.code_in-code.ensures.0 c.requires.2 c.requires.1 c.in_default.in_default-own.rest c.vector.ensures) in
     let k = c.code_in-code.result in
     work_did a.word a.o (vectors c.vector.result (width_at k) (makes_at k)) a.from a.count a.memory.now a.flags c.vector-in_default.new.memory c.vector-in_default.result is.0 c.vector-in_default.ensures

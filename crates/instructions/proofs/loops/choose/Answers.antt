@@ -3,9 +3,6 @@ use native.Mathlib.Omega.{arith}
 use Rattle.instructions.proofs.Gates.{small, chosen}
 use Rattle.instructions.proofs.loops.choose.Goals as goal
 
-pub choose_spec : {M : Type 1} → statement M
-choose_spec = goal.close (goal.spec mul-k returns)
-
 pub overflow_mul-k : goal.overflow_mul-k
 overflow_mul-k c = omega (arith, small c.args.go c.requires)
 

@@ -35,4 +35,4 @@ pub returns-in-152 : goal.returns-in-152
 returns-in-152 c = made_at _ _ c.in-152.is c.plain-in-152.ensures
 
 pub returns-in_default : goal.returns-in_default
-returns-in_default c = not_made _ _ c.args.code c.in_default.rest c.plain-in_default.ensures
+returns-in_default c = not_made _ _ c.args.code c.in_default.in_default-own.rest c.plain-in_default.ensures

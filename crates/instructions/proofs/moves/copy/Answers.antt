@@ -8,24 +8,6 @@ use Rattle.instructions.specs.Items.{bits}
 use Rattle.instructions.proofs.Turning.{byte_turn, byte_read}
 use Rattle.instructions.proofs.moves.copy.Goals as goal
 
-pub copy_spec : {M : Type 1} → statement M
-copy_spec =
-    goal.close
-    (goal.spec
-    invariant-loop
-    decreases-loop
-    loop-holds
-    add-i
-    add-m
-    slice-read-m
-    add-m-2
-    slice-write-m
-    add-j
-    loop-less
-    loop-again
-    same_length
-    returns)
-
 pub loop-j-init : goal.loop-j-init
 loop-j-init c = (omega arith, refl, (λ (f : ℕ). refl))
 

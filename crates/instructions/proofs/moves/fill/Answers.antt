@@ -8,23 +8,6 @@ use Rattle.instructions.specs.Items.{fixed}
 use Rattle.instructions.proofs.Turning.{byte_turn}
 use Rattle.instructions.proofs.moves.fill.Goals as goal
 
-pub fill_spec : {M : Type 1} → statement M
-fill_spec =
-    goal.close
-    (goal.spec
-    invariant-loop
-    decreases-loop
-    loop-holds
-    add-i
-    same-requires
-    add-m
-    slice-write-m
-    add-j
-    loop-less
-    loop-again
-    same_length
-    returns)
-
 pub loop-j-init : goal.loop-j-init
 loop-j-init c = (omega arith, refl, (λ (n : ℕ). (c.type_inv.m n).fits), (λ (f : ℕ). refl))
 

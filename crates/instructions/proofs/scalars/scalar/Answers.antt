@@ -1,13 +1,14 @@
 -- `instructions::scalars::scalar`: each arm knows its code, at which the definition picks the arm's case; the last arm knows that no case fits.
-use mathlib.Core.Logic.{inl, inr, ⊎_elim}
+use mathlib.Core.Logic.{◌⊎◌, inl, inr}
 use mathlib.Core.Path.{refl, sym, ap, ◌∙◌}
-use Prim.Native.Nat.{ℕ}
+use Prim.Native.Nat.{ℕ, ◌<◌, ◌≤◌}
 use native.Mathlib.Omega.{arith}
 use lib.ListN.{length}
 use Rattle.fields.specs.Bytes.{num}
 use Rattle.instructions.proofs.ByCode.{reached_at, chosen, branched, nothing, register_is, word_is, half_is}
 use Rattle.instructions.specs.Scalars.{load_byte_of, load_word_of}
 use Rattle.instructions.proofs.scalars.scalar.Goals as goal
+use Rattle.instructions.proofs.scalars.scalar.Goals.{in_default-via-then-code-lt176, in_default-via-else-code-lt176+else-code-lt182}
 
 pub load_byte-requires : goal.load_byte-requires
 load_byte-requires c = reached_at _ _ _ 0x12 (sym c.code_in-code.ensures.0 ∙ c.in-18.is) c.requires
@@ -70,7 +71,10 @@ pub returns-in-127 : goal.returns-in-127
 returns-in-127 c = chosen _ _ _ _ c.code_in-code.ensures.0 c.in-127.is c.store_word.ensures
 
 pub returns-in-176 : goal.returns-in-176
-returns-in-176 c = branched _ _ _ _ c.code_in-code.ensures.0 c.if-code-lt176.false c.if-code-lt182.true c.branch-word.ensures
+returns-in-176 c = branched _ _ _ _ c.code_in-code.ensures.0 c.in-176.if-code-lt176-own.false c.in-176.if-code-lt182-own.true c.branch-word.ensures
 
 pub returns-in_default : goal.returns-in_default
-returns-in_default c = nothing _ _ _ _ c.code_in-code.ensures.0 c.in-176.rest (⊎_elim (λ p. inl (omega arith)) (λ p. inr (omega arith)) c.if-code-lt176.branch) c.falls_through.ensures
+returns-in_default c =
+    let outside : (c.code_in-code.result < 0xB0) ⊎ (0xB6 ≤ c.code_in-code.result) =
+        elim c.in_default.branch [ in_default-via-then-code-lt176 w ↦ inl (omega arith) | in_default-via-else-code-lt176+else-code-lt182 w ↦ inr (omega arith) ] in
+    nothing _ _ _ _ c.code_in-code.ensures.0 c.in_default-1.rest outside c.falls_through.ensures

@@ -2,9 +2,6 @@ use borrow.Author.Rules.{rules}
 use Rattle.instructions.proofs.TablePlaces.{stands_found}
 use Rattle.instructions.proofs.table.find.Goals as goal
 
-pub find_spec : {M : Type 1} → statement M
-find_spec = goal.close (goal.spec look-requires returns)
-
 pub look-requires : goal.look-requires
 look-requires c = search rules
 

@@ -11,12 +11,12 @@ returns-then-unfetched c =
 
 pub returns-then-unfetched-2 : goal.returns-then-unfetched-2
 returns-then-unfetched-2 c =
-    listed_not_there c.args.word c.args.o c.args.lent.0 c.args.p.0 c.decode-decoded.result c.decode-decoded.ensures _ c.in-Listed.is.1 _ _ c.long.ensures c.unfetched-in-Listed.ensures c.if-unfetched-2.true
+    listed_not_there c.args.word c.args.o c.args.lent.0 c.args.p.0 c.decode-decoded.result c.decode-decoded.ensures _ c.in-Listed.is _ _ c.long.ensures c.unfetched-in-Listed.ensures c.if-unfetched-2.true
 
 pub returns-else-unfetched : goal.returns-else-unfetched
 returns-else-unfetched c =
-    refused_word c.args.word c.args.o c.args.lent.0 c.args.p.0 c.decode-decoded.result c.decode-decoded.ensures _ _ _ (c.unfetched.ensures ∙ ap (λ (t : Bool). unfetched_at c.args.p.0 t c.args.lent.0) c.is_long.ensures) c.if-unfetched.false c.in-Refused.is.1 c.number.ensures
+    refused_word c.args.word c.args.o c.args.lent.0 c.args.p.0 c.decode-decoded.result c.decode-decoded.ensures _ _ _ (c.unfetched.ensures ∙ ap (λ (t : Bool). unfetched_at c.args.p.0 t c.args.lent.0) c.is_long.ensures) c.if-unfetched.false c.in-Refused.is c.number.ensures
 
 pub returns-else-unfetched-2 : goal.returns-else-unfetched-2
 returns-else-unfetched-2 c =
-    listed_word c.args.word c.args.o c.args.lent.0 c.args.p.0 c.decode-decoded.result c.decode-decoded.ensures _ c.in-Listed.is.1 _ _ _ c.long.ensures c.unfetched-in-Listed.ensures c.if-unfetched-2.false c.listed.ensures
+    listed_word c.args.word c.args.o c.args.lent.0 c.args.p.0 c.decode-decoded.result c.decode-decoded.ensures _ c.in-Listed.is _ _ _ c.long.ensures c.unfetched-in-Listed.ensures c.if-unfetched-2.false c.listed.ensures

@@ -2,11 +2,6 @@ use Rattle.instructions.proofs.WordsDecoding.{read_listed, read_refused}
 use borrow.Author.Rules.{rules}
 use Rattle.instructions.proofs.words.read.Goals as goal
 
-pub read_spec : {M : Type 1} → statement M
-read_spec =
-    goal.close
-    (goal.spec decode-requires enum_told take-apart-requires enum-known-d returns returns-2)
-
 -- src/words.rt:156:9
 pub decode-d-requires : goal.decode-d-requires
 decode-d-requires c = search rules
@@ -25,8 +20,8 @@ enum_known-d c = search rules
 
 -- src/words.rt:153:1
 pub returns-in-Listed : goal.returns-in-Listed
-returns-in-Listed c = read_listed c.args.word c.decode-d.result c.decode-d.ensures _ c.take_apart.result c.in-Listed.is.1 c.take_apart.ensures
+returns-in-Listed c = read_listed c.args.word c.decode-d.result c.decode-d.ensures _ c.take_apart.result c.in-Listed.is c.take_apart.ensures
 
 -- src/words.rt:153:1
 pub returns-in-Refused : goal.returns-in-Refused
-returns-in-Refused c = read_refused c.args.word c.decode-d.result c.decode-d.ensures _ c.in-Refused.is.1
+returns-in-Refused c = read_refused c.args.word c.decode-d.result c.decode-d.ensures _ c.in-Refused.is

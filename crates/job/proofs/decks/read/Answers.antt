@@ -95,7 +95,7 @@ loop-at-smaller c = omega arith
 
 -- src/decks.rt:371:5
 pub loop-at-preserved : goal.loop-at-preserved
-loop-at-preserved c = (subst FitsKept c.in-Deck.is.1 c.keep-kept.ensures, search rules, omega arith, omega arith)
+loop-at-preserved c = (subst FitsKept c.in-Deck.is c.keep-kept.ensures, search rules, omega arith, omega arith)
 
 -- src/decks.rt:382:5
 pub whole-requires : goal.whole-requires

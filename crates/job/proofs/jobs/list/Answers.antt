@@ -5,4 +5,4 @@ use Rattle.job.proofs.jobs.list.Goals as goal
 
 -- src/jobs.rt:179:29
 pub list_deck-requires : goal.list_deck-requires
-list_deck-requires c = (subst FitsReading c.in-Deck.is.1 c.input-reading.ensures, search rules)
+list_deck-requires c = (subst FitsReading c.in-Deck.is c.input-reading.ensures, search rules)

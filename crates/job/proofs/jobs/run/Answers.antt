@@ -39,7 +39,7 @@ slice_bounds-run_deck-end c = search rules
 
 -- src/jobs.rt:99:29
 pub run_deck-requires : goal.run_deck-requires
-run_deck-requires c = (subst FitsReading c.in-Deck.is.1 c.input-reading.ensures, search rules)
+run_deck-requires c = (subst FitsReading c.in-Deck.is c.input-reading.ensures, search rules)
 
 pub enum_told-1 : goal.enum_told-1
 enum_told-1 c = search rules

@@ -44,7 +44,7 @@ slice_bounds-step_deck-end-in-Deck c = search rules
 
 -- src/jobs.rt:148:29
 pub step_deck-requires : goal.step_deck-requires
-step_deck-requires c = (subst FitsReading c.in-Deck.is.1 c.input-reading.ensures, search rules, search rules)
+step_deck-requires c = (subst FitsReading c.in-Deck.is c.input-reading.ensures, search rules, search rules)
 
 pub enum_told-1 : goal.enum_told-1
 enum_told-1 c = search rules

@@ -10,13 +10,13 @@ pub enum_known-got : goal.enum_known-got
 enum_known-got c = search rules
 
 pub overflow_sub-rest : goal.overflow_sub-rest
-overflow_sub-rest c = within_of _ _ _ _ c.requires c.in-Did.is.1
+overflow_sub-rest c = within_of _ _ _ _ c.requires c.in-Did.is
 
 pub enum_known-got-in-Ended-1 : goal.enum_known-got-in-Ended-1
 enum_known-got-in-Ended-1 c = search rules
 
 pub returns-in-Did : goal.returns-in-Did
-returns-in-Did c = rw c.in-Did.is.1
+returns-in-Did c = rw c.in-Did.is
 
 pub returns-in-Ended : goal.returns-in-Ended
-returns-in-Ended c = rw c.in-Ended.is.1
+returns-in-Ended c = rw c.in-Ended.is

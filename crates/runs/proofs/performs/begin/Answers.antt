@@ -33,7 +33,7 @@ gather-o-requires c = (lengths_of _ _ c.requires.0.lengths).1
 
 pub returns-in-Ends : goal.returns-in-Ends
 returns-in-Ends c =
-    performs_refused _ _ _ _ c.args.most _ (fetched c) (sym c.said_by-said.ensures ∙ c.in-Ends.is.1)
+    performs_refused _ _ _ _ c.args.most _ (fetched c) (sym c.said_by-said.ensures ∙ c.in-Ends.is)
 
 pub overflow_add-p : goal.overflow_add-p
 overflow_add-p c =
