@@ -3,9 +3,6 @@ use borrow.Author.Rules.{rules}
 use Rattle.runs.proofs.Turning.{within_of}
 use Rattle.runs.proofs.advances.counted.Goals as goal
 
-pub counted_spec : {M : Type 1} → statement M
-counted_spec = goal.close (goal.spec enum-known-got sub-rest enum-known-got-2 returns returns-2)
-
 pub enum_known-got : goal.enum_known-got
 enum_known-got c = search rules
 

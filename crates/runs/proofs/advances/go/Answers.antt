@@ -23,7 +23,7 @@ pub loop-memory-preserved : goal.loop-memory-preserved
 loop-memory-preserved c =
     let a = c.advance-d in
     let i = c.loop-memory.invariant in
-    (a.auto.1.0 ∙ i.0, (a.auto.1.1.0 ∙ i.1.0, (a.ensures.same ∙ i.1.1.0, a.ensures.sound)))
+    (a.auto.memory ∙ i.0, (a.auto.registers ∙ i.1.0, (a.ensures.same ∙ i.1.1.0, a.ensures.sound)))
 
 pub shape_of-memory : goal.shape_of-memory
 shape_of-memory c = c.loop-memory.invariant.0

@@ -10,47 +10,37 @@ use Rattle.runs.specs.Calls.{lengths_right}
 use Rattle.runs.specs.Private.Inner.{goes_on}
 use Rattle.runs.proofs.advances.pick_up.Goals as goal
 
--- the lengths are right, and the record is possible
-right : (c : goal.Else-not-lengths_right)
-    → lengths_right (length c.args.memory.now) (length c.args.registers.now) ≡ true
-right c = sym c.lengths_right.ensures ∙ not-false c.lengths_right.result c.if-not-lengths_right.false
-
-goes : (c : goal.Else-not-goes_on)
-    → goes_on (length c.args.memory.now) c.gather-o.result
-    c.args.rec ≡ true
-goes c = sym c.goes_on.ensures ∙ not-false c.goes_on.result c.if-not-goes_on.false
-
 pub returns-then-not-lengths_right : goal.returns-then-not-lengths_right
 returns-then-not-lengths_right c =
     let a = c.args in
     let l = c.lengths_right in
-    picks_2 a.memory.now a.registers.now a.rec a.budget (sym l.ensures ∙ not-true l.result c.if-not-lengths_right.true)
+    picks_2 a.memory.now a.registers.now a.rec a.budget (sym l.ensures ∙ c.if-not-lengths_right.true)
 
 pub gather-o-requires : goal.gather-o-requires
-gather-o-requires c = (lengths_of _ _ (right c)).1
+gather-o-requires c = (lengths_of _ _ (sym c.lengths_right.ensures ∙ c.if-not-lengths_right.false)).1
 
 pub returns-then-not-goes_on : goal.returns-then-not-goes_on
 returns-then-not-goes_on c =
     let a = c.args in
     let o = c.gather-o in
     let g = c.goes_on in
-    picks_3 a.memory.now a.registers.now a.rec o.result a.budget c.requires (right c) o.ensures (sym g.ensures ∙ not-true g.result c.if-not-goes_on.true)
+    picks_3 a.memory.now a.registers.now a.rec o.result a.budget c.requires (sym c.lengths_right.ensures ∙ c.if-not-lengths_right.false) o.ensures (sym g.ensures ∙ c.if-not-goes_on.true)
 
 pub returns-then-budget-eq0 : goal.returns-then-budget-eq0
 returns-then-budget-eq0 c =
     let a = c.args in
     let o = c.gather-o in
-    picks_0 a.memory.now a.registers.now a.rec o.result a.budget c.requires (right c) o.ensures (goes c)
+    picks_0 a.memory.now a.registers.now a.rec o.result a.budget c.requires (sym c.lengths_right.ensures ∙ c.if-not-lengths_right.false) o.ensures (sym c.goes_on.ensures ∙ c.if-not-goes_on.false)
 
 pub burst-requires : goal.burst-requires
 burst-requires c =
     let a = c.args in
     let o = c.gather-o in
-    picks_goes a.memory.now a.registers.now a.rec o.result a.budget c.requires (right c) o.ensures (goes c)
+    picks_goes a.memory.now a.registers.now a.rec o.result a.budget c.requires (sym c.lengths_right.ensures ∙ c.if-not-lengths_right.false) o.ensures (sym c.goes_on.ensures ∙ c.if-not-goes_on.false)
 
 pub returns : goal.returns
 returns c =
     let a = c.args in
     let o = c.gather-o in
-    picks_up a.memory.now a.registers.now a.rec o.result a.budget c.requires (right c) o.ensures (goes c)
+    picks_up a.memory.now a.registers.now a.rec o.result a.budget c.requires (sym c.lengths_right.ensures ∙ c.if-not-lengths_right.false) o.ensures (sym c.goes_on.ensures ∙ c.if-not-goes_on.false)
     (ne_pos _ c.if-budget-eq0.false) c.burst.new.memory c.burst.result c.burst.ensures

@@ -3,9 +3,6 @@ use borrow.Author.Rules.{rules}
 use Rattle.runs.proofs.Turning.{taken_ends}
 use Rattle.runs.proofs.calls.run.Goals as goal
 
-pub run_spec : {M : Type 1} → statement M
-run_spec = goal.close (goal.spec take-up-requires go-requires finish-requires same_length same-length-2 returns)
-
 pub take_up-c-requires : goal.take_up-c-requires
 take_up-c-requires c = search rules
 

@@ -8,18 +8,18 @@ pub returns-then-not-place_right : goal.returns-then-not-place_right
 unfolding goes_on
 returns-then-not-place_right c =
     let p = c.place_right in
-    simp (sym p.ensures, not-true p.result c.if-not-place_right.true)
+    simp (sym p.ensures, c.if-not-place_right.true)
 
 pub returns-then-not-flags_right : goal.returns-then-not-flags_right
 unfolding goes_on
 returns-then-not-flags_right c =
     let f = c.flags_right in
     let p = c.place_right in
-    simp (sym p.ensures, not-false p.result c.if-not-place_right.false, sym f.ensures, not-true f.result c.if-not-flags_right.true)
+    simp (sym p.ensures, c.if-not-place_right.false, sym f.ensures, c.if-not-flags_right.true)
 
 pub returns : goal.returns
 unfolding goes_on
 returns c =
     let f = c.flags_right in
     let p = c.place_right in
-    simp (sym p.ensures, not-false p.result c.if-not-place_right.false, sym f.ensures, not-false f.result c.if-not-flags_right.false, sym c.holding.ensures)
+    simp (sym p.ensures, c.if-not-place_right.false, sym f.ensures, c.if-not-flags_right.false, sym c.holding.ensures)

@@ -23,14 +23,14 @@ in_order bytes o r = and_assoc (by_items r.word) (eqb (verdict_of r.p r.word o b
 pub returns-then-not-may_work : goal.returns-then-not-may_work
 returns-then-not-may_work c =
     let b = c.may_work in
-    rw (← in_order) (simp (sym b.ensures ∙ not-true b.result c.if-not-may_work.true))
+    rw (← in_order) (simp (sym b.ensures ∙ c.if-not-may_work.true))
 
 pub returns-then-rec-lt1 : goal.returns-then-rec-lt1
 returns-then-rec-lt1 c =
     let b = c.may_work in
-    rw (← in_order) (simp (sym b.ensures ∙ not-false b.result c.if-not-may_work.false, lt-leb _ _ c.if-rec-lt1.true))
+    rw (← in_order) (simp (sym b.ensures ∙ c.if-not-may_work.false, lt-leb _ _ c.if-rec-lt1.true))
 
 pub returns : goal.returns
 returns c =
     let b = c.may_work in
-    rw (← in_order) (simp (sym b.ensures ∙ not-false b.result c.if-not-may_work.false, le-leb _ _ c.if-rec-lt1.false, sym c.count.ensures))
+    rw (← in_order) (simp (sym b.ensures ∙ c.if-not-may_work.false, le-leb _ _ c.if-rec-lt1.false, sym c.count.ensures))

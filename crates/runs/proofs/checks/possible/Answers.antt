@@ -8,14 +8,14 @@ pub returns-then-not-place_right : goal.returns-then-not-place_right
 unfolding possible
 returns-then-not-place_right c =
     let p = c.place_right in
-    simp (sym p.ensures, not-true p.result c.if-not-place_right.true)
+    simp (sym p.ensures, c.if-not-place_right.true)
 
 pub returns-then-not-flags_right : goal.returns-then-not-flags_right
 unfolding possible
 returns-then-not-flags_right c =
     let f = c.flags_right in
     let p = c.place_right in
-    simp (sym p.ensures, not-false p.result c.if-not-place_right.false, sym f.ensures, not-true f.result c.if-not-flags_right.true)
+    simp (sym p.ensures, c.if-not-place_right.false, sym f.ensures, c.if-not-flags_right.true)
 
 pub returns-then-between_two : goal.returns-then-between_two
 unfolding possible
@@ -23,7 +23,7 @@ returns-then-between_two c =
     let b = c.between_two in
     let f = c.flags_right in
     let p = c.place_right in
-    simp (sym p.ensures, not-false p.result c.if-not-place_right.false, sym f.ensures, not-false f.result c.if-not-flags_right.false, sym b.ensures, c.if-between_two.true)
+    simp (sym p.ensures, c.if-not-place_right.false, sym f.ensures, c.if-not-flags_right.false, sym b.ensures, c.if-between_two.true)
 
 pub returns : goal.returns
 unfolding possible
@@ -31,4 +31,4 @@ returns c =
     let b = c.between_two in
     let f = c.flags_right in
     let p = c.place_right in
-    simp (sym p.ensures, not-false p.result c.if-not-place_right.false, sym f.ensures, not-false f.result c.if-not-flags_right.false, sym b.ensures, c.if-between_two.false, sym c.half_done.ensures)
+    simp (sym p.ensures, c.if-not-place_right.false, sym f.ensures, c.if-not-flags_right.false, sym b.ensures, c.if-between_two.false, sym c.half_done.ensures)

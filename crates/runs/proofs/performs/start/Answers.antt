@@ -3,21 +3,6 @@ use borrow.Author.Rules.{rules}
 use Rattle.runs.proofs.Striding.{performs_strode, starts_same, performs_same, other_way}
 use Rattle.runs.proofs.performs.start.Goals as goal
 
-pub start_spec : {M : Type 1} → statement M
-start_spec =
-    goal.close
-    (goal.spec
-    stride-requires
-    between-requires
-    sub-t13
-    same_length
-    same-length-2
-    returns
-    begin-requires
-    same-length-3
-    same-length-4
-    returns-2)
-
 pub stride-s-requires : goal.stride-s-requires
 stride-s-requires c = search rules
 

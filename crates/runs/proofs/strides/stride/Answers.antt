@@ -33,12 +33,12 @@ returns-then-not-one_step c =
       as_long = l.invariant.0;
       few = l.invariant.1.1.0;
       steps = l.invariant.1.1.1;
-      over = λ some. not_one_step (stride_at l.memory l.registers l.s) _ _ _ c.fetch-word.ensures c.gather-o.ensures c.one_step.ensures (not-true _ c.if-not-one_step.true);
+      over = λ some. not_one_step (stride_at l.memory l.registers l.s) _ _ _ c.fetch-word.ensures c.gather-o.ensures c.one_step.ensures (c.if-not-one_step.true);
     }
 
 pub act-d-requires : goal.act-d-requires
 act-d-requires c =
-    let passes = one_step_passes _ _ _ _ _ c.one_step.ensures (not-false _ c.if-not-one_step.false) in
+    let passes = one_step_passes _ _ _ _ _ c.one_step.ensures (c.if-not-one_step.false) in
     (passes.0, passes.1, c.loop-s.invariant.1.0 ∙ (lengths_of _ _ c.requires).1)
 
 pub overflow_sub-s : goal.overflow_sub-s
@@ -52,11 +52,11 @@ loop-s-preserved c =
     let i = c.loop-s.invariant in (
       c.act-d.ensures.0 ∙ i.0,
       (
-        c.act-d.auto.1.0 ∙ i.1.0,
+        c.act-d.auto.registers ∙ i.1.0,
         (
           omega (arith, i.1.1.0),
           stride_on _ _ _ _ _ _ _ i.1.1.0 c.loop-s-test.true i.1.1.1 refl c.fetch-word.ensures c.gather-o.ensures c.one_step.ensures
-              (not-false _ c.if-not-one_step.false) _ _ _ _ _ c.act-d.ensures.0 c.act-d.ensures.1,
+              (c.if-not-one_step.false) _ _ _ _ _ c.act-d.ensures.0 c.act-d.ensures.1,
         ),
       ),
     )

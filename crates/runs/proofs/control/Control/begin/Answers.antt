@@ -9,21 +9,21 @@ pub returns-then-not-lengths_right : goal.returns-then-not-lengths_right
 unfolding beginning
 returns-then-not-lengths_right c =
     let l = c.lengths_right in
-    simp (sym l.ensures, not-true l.result c.if-not-lengths_right.true)
+    simp (sym l.ensures, c.if-not-lengths_right.true)
 
 pub possible-requires : goal.possible-requires
 possible-requires c =
     let l = c.lengths_right in
-    (lengths_of _ _ (sym l.ensures ∙ not-false l.result c.if-not-lengths_right.false)).1
+    (lengths_of _ _ (sym l.ensures ∙ c.if-not-lengths_right.false)).1
 
 pub returns-then-possible : goal.returns-then-possible
 unfolding beginning
 returns-then-possible c =
     let l = c.lengths_right in
-    simp (sym l.ensures, not-false l.result c.if-not-lengths_right.false, sym c.possible.ensures, c.if-possible.true)
+    simp (sym l.ensures, c.if-not-lengths_right.false, sym c.possible.ensures, c.if-possible.true)
 
 pub returns : goal.returns
 unfolding beginning
 returns c =
     let l = c.lengths_right in
-    simp (sym l.ensures, not-false l.result c.if-not-lengths_right.false, sym c.possible.ensures, c.if-possible.false)
+    simp (sym l.ensures, c.if-not-lengths_right.false, sym c.possible.ensures, c.if-possible.false)

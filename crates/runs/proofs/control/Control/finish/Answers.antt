@@ -5,9 +5,6 @@ use native.Mathlib.Omega.{arith}
 use Rattle.runs.specs.Controls.{finishing}
 use Rattle.runs.proofs.control.Control.finish.Goals as goal
 
-pub finish_spec : {M : Type 1} → statement M
-finish_spec = goal.close (goal.spec returns returns-2)
-
 pub returns-then-left-budget : goal.returns-then-left-budget
 unfolding finishing
 returns-then-left-budget c = refl
