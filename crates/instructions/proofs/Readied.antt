@@ -27,7 +27,6 @@ use Rattle.fields.proofs.Furthest.{at_most}
 use Rattle.fields.proofs.GatherMeaning.{Lengths, extents_low, compress_few, merge_few}
 use Rattle.instructions.specs.declared.operands.Operands.{Operands}
 use Rattle.instructions.specs.declared.layout.Fields.{Fields}
-use Rattle.instructions.specs.declared.items.Source.TheVariants.{Field}
 use Rattle.instructions.specs.declared.items.Control.TheVariants.{Every, Where}
 use Rattle.instructions.specs.declared.items.Rule.{Rule}
 use Rattle.instructions.specs.declared.items.SecondBits.TheVariants.{From, Zeros}

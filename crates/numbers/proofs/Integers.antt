@@ -8,7 +8,7 @@ use native.Mathlib.Numerals.{add-one}
 use native.Mathlib.Omega.{arith}
 use borrow.Author.Tests.{le-ltb, lt-ltb, ltb-true}
 use lib.Dec.{T}
-use lib.IntN.{ℤ, pos, negsuc, neg_ℤ, ◌+ℤ◌, ◌-ℤ◌, sub_ℕ, nat_abs, +ℤ_idl}
+use lib.IntN.{ℤ, pos, negsuc, neg_ℤ, ◌-ℤ◌, sub_ℕ, nat_abs, +ℤ_idl}
 use lib.Signed.{mag, lt_z, non_neg}
 use lib.Pow.{pow_mono, pow-lt, pow_pos}
 use mir.Syntax.{w64}

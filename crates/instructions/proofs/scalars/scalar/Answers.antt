@@ -76,5 +76,5 @@ returns-in-176 c = branched _ _ _ _ c.code_in-code.ensures.0 c.in-176.if-code-lt
 pub returns-in_default : goal.returns-in_default
 returns-in_default c =
     let outside : (c.code_in-code.result < 0xB0) ⊎ (0xB6 ≤ c.code_in-code.result) =
-        elim c.in_default.branch [ in_default-via-then-code-lt176 w ↦ inl (omega arith) | in_default-via-else-code-lt176+else-code-lt182 w ↦ inr (omega arith) ] in
+    elim c.in_default.branch [ in_default-via-then-code-lt176 w ↦ inl (omega arith) | in_default-via-else-code-lt176+else-code-lt182 w ↦ inr (omega arith) ] in
     nothing _ _ _ _ c.code_in-code.ensures.0 c.in_default-1.rest outside c.falls_through.ensures

@@ -5,7 +5,6 @@ use Rattle.instructions.specs.declared.table.Kind.{Kind}
 use Rattle.instructions.specs.Layout.{of_kind}
 use Rattle.instructions.specs.Private.Inner.{refusal_of}
 use Rattle.instructions.proofs.VerdictSteps.{refused_no_work, itemless_no_work, not_there_no_work, work_judged}
-use borrow.Author.Tests.{not-true, not-false}
 use Rattle.instructions.proofs.verdict.may_work.Goals as goal
 
 pub returns-then-not-has_items : goal.returns-then-not-has_items

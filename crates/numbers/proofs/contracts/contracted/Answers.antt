@@ -68,7 +68,7 @@ returns-then-x-geminus136 c = let s = total c.args.word c.of_word-n.result c.of_
 pub returns : goal.returns
 unfolding contract_of contracted_at
 returns c = rw (
-      test_of (λ (z : ℤ). le_z (pos 0x7000) z) c.of_word-n.result.exponent _ false (seen c.args.word c.of_word-n.result c.of_word-n.ensures) c.if-x-ge28672.false,
-      test_of (λ (z : ℤ). le_z (pos 0x58) z) c.of_word-n.result.exponent _ false (seen c.args.word c.of_word-n.result c.of_word-n.ensures) c.if-x-ge88.false,
-      test_of (λ (z : ℤ). le_z (negsuc 0x87) z) c.of_word-n.result.exponent _ false (seen c.args.word c.of_word-n.result c.of_word-n.ensures) c.if-x-geminus136.false,
-    )
+  test_of (λ (z : ℤ). le_z (pos 0x7000) z) c.of_word-n.result.exponent _ false (seen c.args.word c.of_word-n.result c.of_word-n.ensures) c.if-x-ge28672.false,
+  test_of (λ (z : ℤ). le_z (pos 0x58) z) c.of_word-n.result.exponent _ false (seen c.args.word c.of_word-n.result c.of_word-n.ensures) c.if-x-ge88.false,
+  test_of (λ (z : ℤ). le_z (negsuc 0x87) z) c.of_word-n.result.exponent _ false (seen c.args.word c.of_word-n.result c.of_word-n.ensures) c.if-x-geminus136.false,
+)

@@ -1,5 +1,5 @@
 -- `numbers::division::rounded_down` meets its contract.
-use mathlib.Core.Path.{◌≡◌, ◌∙◌, sym, ap}
+use mathlib.Core.Path.{◌∙◌, sym, ap}
 use Prim.Native.Nat.{◌/◌, ◌^◌}
 use lib.IntN.{ℤ, pos}
 use lib.Signed.{mag}

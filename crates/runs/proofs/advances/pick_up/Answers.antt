@@ -1,13 +1,8 @@
 -- `runs::advances::pick_up` meets its contract.
-use mathlib.Core.Bool.{true}
-use mathlib.Core.Path.{◌≡◌, sym, ◌∙◌}
-use borrow.Author.Tests.{not-true, not-false}
-use lib.ListN.{length}
+use mathlib.Core.Path.{sym, ◌∙◌}
 use Rattle.runs.proofs.Choices.{ne_pos}
 use Rattle.runs.proofs.Soundness.{lengths_of}
 use Rattle.runs.proofs.Taking.{picks_2, picks_3, picks_0, picks_goes, picks_up}
-use Rattle.runs.specs.Calls.{lengths_right}
-use Rattle.runs.specs.Private.Inner.{goes_on}
 use Rattle.runs.proofs.advances.pick_up.Goals as goal
 
 pub returns-then-not-lengths_right : goal.returns-then-not-lengths_right

@@ -1,6 +1,5 @@
 -- `runs::checks::goes_on` meets its contract.
 use mathlib.Core.Path.{sym}
-use borrow.Author.Tests.{not-true, not-false}
 use Rattle.runs.specs.Private.Inner.{goes_on}
 use Rattle.runs.proofs.checks.goes_on.Goals as goal
 

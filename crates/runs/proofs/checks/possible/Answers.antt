@@ -1,6 +1,5 @@
 -- `runs::checks::possible` meets its contract.
 use mathlib.Core.Path.{sym}
-use borrow.Author.Tests.{not-true, not-false}
 use Rattle.runs.specs.Records.{possible}
 use Rattle.runs.proofs.checks.possible.Goals as goal
 

@@ -1,7 +1,5 @@
 use mathlib.Core.Path.{refl, sym, ◌∙◌}
-use Prim.Native.Nat.{◌-◌}
 use native.Mathlib.Omega.{arith}
-use borrow.Author.Tests.{not-true, not-false}
 use Rattle.runs.proofs.Soundness.{lengths_of}
 use Rattle.runs.proofs.Striding.{one_step_passes, not_one_step, stride_on, no_stride}
 use Rattle.runs.specs.Private.Inner.{stride_at}

@@ -1,6 +1,5 @@
 -- `runs::control::Control::begin` meets its contract.
 use mathlib.Core.Path.{sym, ◌∙◌}
-use borrow.Author.Tests.{not-true, not-false}
 use Rattle.runs.proofs.Soundness.{lengths_of}
 use Rattle.runs.specs.Controls.{beginning}
 use Rattle.runs.proofs.control.Control.begin.Goals as goal

@@ -1,7 +1,6 @@
 -- `runs::control::Control::step` meets its contract.
 use mathlib.Core.Path.{sym, ◌∙◌}
 use borrow.Author.Rules.{rules}
-use borrow.Author.Tests.{not-true, not-false}
 use Rattle.runs.proofs.Choices.{ne_pos}
 use Rattle.runs.proofs.Turning.{turn_over, turn_none, turn_wrong, turn_counted, performs_within}
 use Rattle.runs.proofs.control.Control.step.Goals as goal
