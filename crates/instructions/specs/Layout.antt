@@ -109,7 +109,15 @@ move_of o =
 -- §6.4, §12.18: no field, but where it goes to if it is taken.
 abbrev pub branch_fields : ℕ → Operands → Fields
 branch_fields w o =
-    record { result = absent_field; first = absent_field; second = absent_field; control = absent_field; short = false; taken = taken_of w o; target = target_of o }
+    record {
+      result = absent_field;
+      first = absent_field;
+      second = absent_field;
+      control = absent_field;
+      short = false;
+      taken = taken_of w o;
+      target = target_of o;
+    }
 
 -- ---- by kind
 

@@ -1,4 +1,4 @@
-// The call for C hosts: the record is lent to the run and holds the new state afterwards.
+// The call for C hosts: the record is lent to the run and holds the new state afterwards. The crate runs_c exports it to C.
 ghost use Rattle.std.specs.Prelude.{◌≡◌};
 ghost use Rattle.runs.specs.Steps.{lent_at};
 ghost use Rattle.runs.specs.Calls.{run};
@@ -19,8 +19,7 @@ pub fn packed(out: Outcome) -> u64
 }
 
 // A run of at most `budget` steps over a record that is lent.
-#[unsafe(no_mangle)]
-pub extern "C" fn rawgunshet_run(
+pub fn rawgunshet_run(
     memory: &mut [u8],
     registers: &mut [u64],
     rec: &mut Record,
