@@ -9,20 +9,22 @@ mod of_fields; // memory, extents, overlaps, and what compress, merge and mask r
 mod of_runs; // the reservoir job, a vector over its own word, a move, refusals
 mod of_numbers; // one word or two: 2C to 2E, 63, 67, 70 to 72, 76, 77, 7A to 7C, 8A
 
-fn main() {
-    of_numbers::contracts();
-    of_numbers::wholes();
-    of_numbers::shifts();
-    of_numbers::words();
-    of_numbers::numbers_taken_apart();
-    of_fields::reads_and_writes();
-    of_fields::counts();
-    of_fields::extents();
-    of_fields::overlaps();
-    of_fields::gathers();
-    of_runs::reservoir_in_one_call();
-    of_runs::reservoir_cut();
-    of_runs::over_its_own_word();
-    of_runs::move_and_refusals();
-    of_codes::every_code();
+use std::io;
+
+fn main(rt: HostRuntime) -> io::Result<()> {
+    of_numbers::contracts(&rt)?;
+    of_numbers::wholes(&rt)?;
+    of_numbers::shifts(&rt)?;
+    of_numbers::words(&rt)?;
+    of_numbers::numbers_taken_apart(&rt)?;
+    of_fields::reads_and_writes(&rt)?;
+    of_fields::counts(&rt)?;
+    of_fields::extents(&rt)?;
+    of_fields::overlaps(&rt)?;
+    of_fields::gathers(&rt)?;
+    of_runs::reservoir_in_one_call(&rt)?;
+    of_runs::reservoir_cut(&rt)?;
+    of_runs::over_its_own_word(&rt)?;
+    of_runs::move_and_refusals(&rt)?;
+    of_codes::every_code(&rt)
 }

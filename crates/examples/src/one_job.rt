@@ -3,6 +3,7 @@ use crate::of_runs;
 use runs::calls::Outcome;
 use runs::records::Record;
 use runs::{answers, calls};
+use std::io;
 
 // 128 bytes: the instruction, exit, words of every kind, and four words that results go to.
 fn instruction(m: &mut [u8], word: u64) {
@@ -78,29 +79,29 @@ fn run(m: &mut [u8], registers: &mut [u64; 256], t: usize, v: u64) -> Outcome {
     calls::run(m, registers, Record::between(0x4000, 0), 200)
 }
 
-fn tell(word: u64, t: usize, v: u64, r: Outcome) {
-    lines::hex(b"", word, 16);
-    lines::hex(b" ", t as u64, 2);
-    lines::hex(b" ", v, 16);
+fn tell(out: &impl Print, word: u64, t: usize, v: u64, r: Outcome) -> io::Result<()> {
+    lines::hex(out, b"", word, 16)?;
+    lines::hex(out, b" ", t as u64, 2)?;
+    lines::hex(out, b" ", v, 16)?;
     let answer = r.answer;
     let rec = r.rec;
-    lines::decimal(b": answer ", answers::number(answer));
-    lines::decimal(b" steps ", r.steps as u64);
-    lines::hex(b" P ", rec.p, 1);
-    lines::hex(b" flags ", rec.flags, 6);
+    lines::decimal(out, b": answer ", answers::number(answer))?;
+    lines::decimal(out, b" steps ", r.steps as u64)?;
+    lines::hex(out, b" P ", rec.p, 1)?;
+    lines::hex(out, b" flags ", rec.flags, 6)
 }
 
-fn show(m: &[u8], register: u64) {
-    lines::hex(b" T ", register, 16);
-    lines::hex(b" C ", of_runs::get(m, 96), 16);
-    lines::hex(b" ", of_runs::get(m, 104), 16);
-    lines::hex(b" ", of_runs::get(m, 112), 16);
-    lines::hex(b" ", of_runs::get(m, 120), 16);
-    lines::text(b"\n");
+fn show(out: &impl Print, m: &[u8], register: u64) -> io::Result<()> {
+    lines::hex(out, b" T ", register, 16)?;
+    lines::hex(out, b" C ", of_runs::get(m, 96), 16)?;
+    lines::hex(out, b" ", of_runs::get(m, 104), 16)?;
+    lines::hex(out, b" ", of_runs::get(m, 112), 16)?;
+    lines::hex(out, b" ", of_runs::get(m, 120), 16)?;
+    lines::text(out, b"\n")
 }
 
 // Register t holds v, the others as they are set here; then register 30 and the last four words are shown.
-fn case(word: u64, t: usize, v: u64) {
+fn case(out: &impl Print, word: u64, t: usize, v: u64) -> io::Result<()> {
     let mut m = [0u8; 128];
     let mut registers = [0u64; 256];
     instruction(&mut m, word);
@@ -111,39 +112,39 @@ fn case(word: u64, t: usize, v: u64) {
     addresses(&mut registers);
     descriptors(&mut registers);
     let r = run(&mut m, &mut registers, t, v);
-    tell(word, t, v, r);
-    show(&m, registers[0x30]);
+    tell(out, word, t, v, r)?;
+    show(out, &m, registers[0x30])
 }
 
-pub fn plain(word: u64) {
-    case(word, 0, 0);
+pub fn plain(out: &impl Print, word: u64) -> io::Result<()> {
+    case(out, word, 0, 0)
 }
 
 // 32 bits with R, S and T, and an exit behind them.
-pub fn short_with(code: u64, rst: u64, t: usize, v: u64) {
-    case((code << 56) | (rst << 32) | 0x0900_0000, t, v);
+pub fn short_with(out: &impl Print, code: u64, rst: u64, t: usize, v: u64) -> io::Result<()> {
+    case(out, (code << 56) | (rst << 32) | 0x0900_0000, t, v)
 }
 
-pub fn short(code: u64, rst: u64) {
-    short_with(code, rst, 0, 0);
+pub fn short(out: &impl Print, code: u64, rst: u64) -> io::Result<()> {
+    short_with(out, code, rst, 0, 0)
 }
 
 // 64 bits with G, X, A, Y, B, Z and C.
-pub fn long_with(code: u64, gxaybzc: u64, t: usize, v: u64) {
-    case((code << 56) | gxaybzc, t, v);
+pub fn long_with(out: &impl Print, code: u64, gxaybzc: u64, t: usize, v: u64) -> io::Result<()> {
+    case(out, (code << 56) | gxaybzc, t, v)
 }
 
-pub fn long(code: u64, gxaybzc: u64) {
-    long_with(code, gxaybzc, 0, 0);
+pub fn long(out: &impl Print, code: u64, gxaybzc: u64) -> io::Result<()> {
+    long_with(out, code, gxaybzc, 0, 0)
 }
 
 // The left half of a 64-bit word stands in the last half word of memory, so the word is not all there: 4.
-pub fn cut_off(code: u64) {
+pub fn cut_off(out: &impl Print, code: u64) -> io::Result<()> {
     let mut m = [0u8; 128];
     let mut registers = [0u64; 256];
     let half_word = (code << 24) | 0x20;
     of_runs::put(&mut m, 120, half_word);
     let r = calls::run(&mut m, &mut registers, Record::between(0x43E0, 0), 200);
-    tell(half_word, 0, 0, r);
-    lines::text(b"\n");
+    tell(out, half_word, 0, 0, r)?;
+    lines::text(out, b"\n")
 }

@@ -4,26 +4,28 @@ ghost use Rattle.std.specs.Prelude.{◌≡◌, ◌≤◌, length};
 use fields::bytes;
 use lines::{hex, text};
 use runs::records::Record;
+use std::io;
 
 // The value before and the value afterwards.
-fn from_to(before: u64, after: u64, digits: usize) {
-    hex(b": ", before, digits);
-    hex(b" -> ", after, digits);
-    text(b"\n");
+fn from_to(out: &impl Print, before: u64, after: u64, digits: usize) -> io::Result<()> {
+    hex(out, b": ", before, digits)?;
+    hex(out, b" -> ", after, digits)?;
+    text(out, b"\n")
 }
 
-pub fn of_registers(before: &[u64; 256], after: &[u64; 256]) {
+pub fn of_registers(out: &impl Print, before: &[u64; 256], after: &[u64; 256]) -> io::Result<()> {
     let mut i = 0;
     while i < 256 {
         if before[i] != after[i] {
-            hex(b"# register ", i as u64, 2);
-            from_to(before[i], after[i], 16);
+            hex(out, b"# register ", i as u64, 2)?;
+            from_to(out, before[i], after[i], 16)?;
         }
         i += 1;
     }
+    Ok(())
 }
 
-pub fn of_memory(before: &[u8], after: &[u8])
+pub fn of_memory(out: &impl Print, before: &[u8], after: &[u8]) -> io::Result<()>
     requires { (length before.now ≡ length after.now) × (length after.now ≤ 65536) }
 {
     let count = after.len() / 8;
@@ -32,21 +34,23 @@ pub fn of_memory(before: &[u8], after: &[u8])
         let old = bytes::word(before, i * 8);
         let new = bytes::word(after, i * 8);
         if old != new {
-            hex(b"# word ", 0x4000 + 64 * i as u64, 4);
-            from_to(old, new, 16);
+            hex(out, b"# word ", 0x4000 + 64 * i as u64, 4)?;
+            from_to(out, old, new, 16)?;
         }
         i += 1;
     }
+    Ok(())
 }
 
 // P and the flags.
-pub fn of_record(before: Record, after: Record) {
+pub fn of_record(out: &impl Print, before: Record, after: Record) -> io::Result<()> {
     if before.p != after.p {
-        text(b"# p");
-        from_to(before.p, after.p, 4);
+        text(out, b"# p")?;
+        from_to(out, before.p, after.p, 4)?;
     }
     if before.flags != after.flags {
-        text(b"# flags");
-        from_to(before.flags, after.flags, 6);
+        text(out, b"# flags")?;
+        from_to(out, before.flags, after.flags, 6)?;
     }
+    Ok(())
 }

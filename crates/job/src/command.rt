@@ -2,7 +2,7 @@
 use crate::faults::CommandFault;
 use crate::scan;
 use crate::scan::Number;
-use check::same;
+use std::env::{Env, FillError};
 
 // How many instructions `list` shows where it is not said.
 const LISTED: u32 = 32;
@@ -38,28 +38,28 @@ fn count_of(word: &[u8]) -> Count {
 }
 
 // The second word, as a number.
-fn second() -> Count {
+fn second(env: &impl Env) -> Count {
     let mut word = [0u8; 64];
-    let n = os::arg(2, &mut word);
-    if os::errno() == libc::ENAMETOOLONG {
-        return Count::Wrong(CommandFault::NumberLarge);
+    match env.arg(2, &mut word) {
+        Ok(n) => count_of(&word[..n]),
+        Err(FillError::NotPresent) => Count::Wrong(CommandFault::NumberMissing),
+        Err(FillError::TooLong) => Count::Wrong(CommandFault::NumberLarge),
     }
-    count_of(&word[..n])
 }
 
-fn run() -> Command {
-    let budget = second();
+fn run(env: &impl Env) -> Command {
+    let budget = second(env);
     match budget {
         Count::Is(n) => Command::Run(n),
         Count::Wrong(fault) => Command::Wrong(fault),
     }
 }
 
-fn list(words: usize) -> Command {
+fn list(env: &impl Env, words: usize) -> Command {
     if words == 2 {
         return Command::List(LISTED);
     }
-    let count = second();
+    let count = second(env);
     match count {
         Count::Is(n) => Command::List(n),
         Count::Wrong(fault) => Command::Wrong(fault),
@@ -73,25 +73,35 @@ fn step(words: usize) -> Command {
     Command::Step
 }
 
-fn named(name: &[u8], words: usize) -> Command {
+fn named(env: &impl Env, name: &[u8], words: usize) -> Command {
     if 3 < words {
         return Command::Wrong(CommandFault::WordsLeft);
     }
-    if same(name, b"run") {
-        return run();
+    if name == b"run".as_slice() {
+        return run(env);
     }
-    if same(name, b"step") {
+    if name == b"step".as_slice() {
         return step(words);
     }
-    if same(name, b"list") {
-        return list(words);
+    if name == b"list".as_slice() {
+        return list(env, words);
     }
     Command::Wrong(CommandFault::NoSuch)
 }
 
-// What the program was asked to do.
-pub fn given() -> Command {
+// How many words the command line has, the program's name among them.
+fn arg_count(env: &impl Env) -> usize {
+    for i in 0..usize::MAX {
+        if let Err(FillError::NotPresent) = env.arg(i, &mut []) {
+            return i;
+        }
+    }
+    usize::MAX
+}
+
+// What the program was asked to do. No command's name is longer than the place for it.
+pub fn given(env: &impl Env) -> Command {
     let mut name = [0u8; 64];
-    let n = os::arg(1, &mut name);
-    named(&name[..n], os::arg_count())
+    let n = env.arg(1, &mut name).unwrap_or(0);
+    named(env, &name[..n], arg_count(env))
 }

@@ -5,15 +5,15 @@
 //     mark N   held WORD   items N   flags WORD
 //     register NUMBER VALUE
 //     word ADDRESS VALUE
-ghost use Rattle.std.specs.Prelude.{◌≡◌, ◌<◌, ◌≤◌, length};
+ghost use Rattle.std.specs.Prelude.{◌≡◌, ◌<◌, ◌≤◌, length, IfOk};
 ghost use Rattle.job.specs.Places.{Fits, FitsKept, FitsReading};
 
 use crate::faults::{DeckFault, LineFault};
 use crate::scan::{Number, Run};
 use crate::{faults, scan};
-use check::same;
 use fields::bytes;
 use runs::records::Record;
+use std::io;
 
 // What has been said has its place here: a byte for each name, then for each register, then for each word of memory.
 const SAID: usize = 8456;
@@ -110,28 +110,28 @@ impl Deck {
 }
 
 fn name_of(word: &[u8]) -> Name {
-    if same(word, b"register") {
+    if word == b"register".as_slice() {
         return Name::Register;
     }
-    if same(word, b"word") {
+    if word == b"word".as_slice() {
         return Name::Word;
     }
-    if same(word, b"memory") {
+    if word == b"memory".as_slice() {
         return Name::Memory;
     }
-    if same(word, b"p") {
+    if word == b"p".as_slice() {
         return Name::P;
     }
-    if same(word, b"mark") {
+    if word == b"mark".as_slice() {
         return Name::Mark;
     }
-    if same(word, b"held") {
+    if word == b"held".as_slice() {
         return Name::Held;
     }
-    if same(word, b"items") {
+    if word == b"items".as_slice() {
         return Name::Items;
     }
-    if same(word, b"flags") {
+    if word == b"flags".as_slice() {
         return Name::Flags;
     }
     Name::Unknown
@@ -360,25 +360,30 @@ fn keep(
 }
 
 // A deck has to say how long the memory is, and where the job stands.
-fn whole(d: Deck, said: &[u8; SAID]) -> Reading
+fn whole(err: &impl Print, d: Deck, said: &[u8; SAID]) -> io::Result<Reading>
     requires { Fits d }
-    ensures { FitsReading result }
+    ensures { IfOk result FitsReading }
 {
     if said[0] == 0 {
-        faults::of_deck(DeckFault::NoMemory);
-        return Reading::Wrong;
+        faults::of_deck(err, DeckFault::NoMemory)?;
+        return Ok(Reading::Wrong);
     }
     if said[1] == 0 {
-        faults::of_deck(DeckFault::NoP);
-        return Reading::Wrong;
+        faults::of_deck(err, DeckFault::NoP)?;
+        return Ok(Reading::Wrong);
     }
-    Reading::Deck(d)
+    Ok(Reading::Deck(d))
 }
 
 // The deck of a text, its memory and registers put where they are lent; or what is wrong has been said.
-pub fn read(text: &[u8], memory: &mut [u8], registers: &mut [u64; 256]) -> Reading
+pub fn read(
+    err: &impl Print,
+    text: &[u8],
+    memory: &mut [u8],
+    registers: &mut [u64; 256],
+) -> io::Result<Reading>
     requires { 65536 ≡ length memory.old }
-    ensures { FitsReading result }
+    ensures { IfOk result FitsReading }
 {
     let mut said = [0u8; SAID];
     let mut d = Deck::empty();
@@ -388,20 +393,20 @@ pub fn read(text: &[u8], memory: &mut [u8], registers: &mut [u64; 256]) -> Readi
         let end = scan::past(Run::Line, text, at);
         let kept = keep(d, said_by(text, at), memory, registers, &mut said);
         let Kept::Deck(next) = kept else {
-            tell(kept, count, &text[at..end]);
-            return Reading::Wrong;
+            tell(err, kept, count, &text[at..end])?;
+            return Ok(Reading::Wrong);
         };
         d = next;
         at = end + 1;
         count += 1;
     }
-    whole(d, &said)
+    whole(err, d, &said)
 }
 
 // What is wrong with a line.
-fn tell(kept: Kept, count: u64, text: &[u8]) {
+fn tell(err: &impl Print, kept: Kept, count: u64, text: &[u8]) -> io::Result<()> {
     match kept {
-        Kept::Deck(_) => {}
-        Kept::Wrong(fault) => faults::of_line(fault, count, text),
+        Kept::Deck(_) => Ok(()),
+        Kept::Wrong(fault) => faults::of_line(err, fault, count, text),
     }
 }

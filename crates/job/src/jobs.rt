@@ -1,5 +1,5 @@
 // Run, step and list: the deck of standard input, and what becomes of it.
-ghost use Rattle.std.specs.Prelude.{◌≡◌, ◌≤◌, length};
+ghost use Rattle.std.specs.Prelude.{◌≡◌, ◌≤◌, length, IfOk};
 ghost use Rattle.job.specs.Places.{Fits, FitsReading};
 
 use crate::decks::{Deck, Reading};
@@ -9,24 +9,31 @@ use fields::units::BitAddress;
 use instructions::fetch::fetch;
 use instructions::instruction::count;
 use instructions::operands::gather;
-use libc::STDIN_FILENO;
-use lines::{decimal, hex, text};
+use lines::{decimal, hex, read_full, text};
 use runs::answers::is_paused;
 use runs::calls;
 use runs::calls::Outcome;
 use runs::records::Record;
+use std::io;
+use std::io::Read;
 
 // What standard input holds, where it fits.
-fn read_into(space: &mut [u8], memory: &mut [u8], registers: &mut [u64; 256]) -> Reading
+fn read_into(
+    stdin: &mut impl Read,
+    err: &impl Print,
+    space: &mut [u8],
+    memory: &mut [u8],
+    registers: &mut [u64; 256],
+) -> io::Result<Reading>
     requires { 65536 ≡ length memory.old }
-    ensures { FitsReading result }
+    ensures { IfOk result FitsReading }
 {
-    let n = io::read_full(STDIN_FILENO, space);
+    let n = read_full(stdin, space)?;
     if n == space.len() {
-        faults::of_deck(DeckFault::Long);
-        return Reading::Wrong;
+        faults::of_deck(err, DeckFault::Long)?;
+        return Ok(Reading::Wrong);
     }
-    decks::read(&space[..n], memory, registers)
+    decks::read(err, &space[..n], memory, registers)
 }
 
 // Room for a deck's text.
@@ -37,63 +44,86 @@ fn room() -> [u8; 262144]
 }
 
 // The deck of standard input.
-fn input(memory: &mut [u8], registers: &mut [u64; 256]) -> Reading
+fn input(
+    stdin: &mut impl Read,
+    err: &impl Print,
+    memory: &mut [u8],
+    registers: &mut [u64; 256],
+) -> io::Result<Reading>
     requires { 65536 ≡ length memory.old }
-    ensures { FitsReading result }
+    ensures { IfOk result FitsReading }
 {
     let mut space = room();
-    read_into(&mut space, memory, registers)
+    read_into(stdin, err, &mut space, memory, registers)
 }
 
 // Where an instruction is half done: its name, and how many of its items are done.
-fn progress(rec: Record, registers: &[u64; 256]) {
+fn progress(out: &impl Print, rec: Record, registers: &[u64; 256]) -> io::Result<()> {
     if rec.mark == 0 {
-        return;
+        return Ok(());
     }
     let word = rec.word;
     let o = gather(word, registers);
-    text(b"# half done: ");
-    listing::words_of(word);
-    decimal(b": items done ", rec.items);
-    decimal(b" of ", count(word, o));
-    text(b"\n");
+    text(out, b"# half done: ")?;
+    listing::words_of(out, word)?;
+    decimal(out, b": items done ", rec.items)?;
+    decimal(out, b" of ", count(word, o))?;
+    text(out, b"\n")
 }
 
 // The answer and the steps, as comment lines.
-fn tell(r: Outcome, registers: &[u64; 256]) {
+fn tell(out: &impl Print, r: Outcome, registers: &[u64; 256]) -> io::Result<()> {
     let answer = r.answer;
-    text(b"# answer ");
-    answers::tell(answer);
-    decimal(b"\n# steps ", r.steps as u64);
-    text(b"\n");
+    text(out, b"# answer ")?;
+    answers::tell(out, answer)?;
+    decimal(out, b"\n# steps ", r.steps as u64)?;
+    text(out, b"\n")?;
     if is_paused(answer) {
-        progress(r.rec, registers);
+        progress(out, r.rec, registers)?;
     }
+    Ok(())
 }
 
-fn run_lent(rec: Record, memory: &mut [u8], registers: &mut [u64; 256], budget: u32)
+fn run_lent(
+    out: &impl Print,
+    rec: Record,
+    memory: &mut [u8],
+    registers: &mut [u64; 256],
+    budget: u32,
+) -> io::Result<()>
     requires { length memory.old ≤ 65536 }
 {
     let r = calls::run(memory, registers, rec, budget);
-    tell(r, registers);
-    writing::deck(Deck::of(memory.len(), r.rec), memory, registers);
+    tell(out, r, registers)?;
+    writing::deck(out, Deck::of(memory.len(), r.rec), memory, registers)
 }
 
-fn run_deck(d: Deck, memory: &mut [u8], registers: &mut [u64; 256], budget: u32)
+fn run_deck(
+    out: &impl Print,
+    d: Deck,
+    memory: &mut [u8],
+    registers: &mut [u64; 256],
+    budget: u32,
+) -> io::Result<()>
     requires { Fits d × (65536 ≡ length memory.old) }
 {
     let bytes = d.bytes;
-    run_lent(d.record(), &mut memory[..bytes], registers, budget);
+    run_lent(out, d.record(), &mut memory[..bytes], registers, budget)
 }
 
 // At most so many steps, and the deck of the state afterwards.
-pub fn run(budget: u32) {
-    let mut memory = io::large_buffer();
+pub fn run(
+    stdin: &mut impl Read,
+    out: &impl Print,
+    err: &impl Print,
+    budget: u32,
+) -> io::Result<()> {
+    let mut memory = [0u8; 65536];
     let mut registers = [0u64; 256];
-    let reading = input(&mut memory, &mut registers);
+    let reading = input(stdin, err, &mut memory, &mut registers)?;
     match reading {
-        Reading::Deck(d) => run_deck(d, &mut memory, &mut registers, budget),
-        Reading::Wrong => {}
+        Reading::Deck(d) => run_deck(out, d, &mut memory, &mut registers, budget),
+        Reading::Wrong => Ok(()),
     }
 }
 
@@ -106,96 +136,117 @@ fn at_work(rec: Record, memory: &[u8]) -> u64 {
 }
 
 // Where the job stands, and the instruction there.
-fn tell_place(rec: Record, memory: &[u8]) {
-    hex(b"# at ", rec.p, 4);
-    text(b": ");
-    listing::words_of(at_work(rec, memory));
-    text(b"\n");
+fn tell_place(out: &impl Print, rec: Record, memory: &[u8]) -> io::Result<()> {
+    hex(out, b"# at ", rec.p, 4)?;
+    text(out, b": ")?;
+    listing::words_of(out, at_work(rec, memory))?;
+    text(out, b"\n")
 }
 
 fn step_lent(
+    out: &impl Print,
     rec: Record,
     memory: &mut [u8],
     registers: &mut [u64; 256],
     old: &[u8],
     registers_before: &[u64; 256],
-)
+) -> io::Result<()>
     requires { (length memory.old ≤ 65536) × (length old.now ≡ length memory.old) }
 {
-    tell_place(rec, old);
+    tell_place(out, rec, old)?;
     let r = calls::run(memory, registers, rec, 1);
-    changes::of_registers(registers_before, registers);
-    changes::of_memory(old, memory);
-    changes::of_record(rec, r.rec);
-    tell(r, registers);
-    writing::deck(Deck::of(memory.len(), r.rec), memory, registers);
+    changes::of_registers(out, registers_before, registers)?;
+    changes::of_memory(out, old, memory)?;
+    changes::of_record(out, rec, r.rec)?;
+    tell(out, r, registers)?;
+    writing::deck(out, Deck::of(memory.len(), r.rec), memory, registers)
 }
 
 fn step_deck(
+    out: &impl Print,
     d: Deck,
     memory: &mut [u8],
     registers: &mut [u64; 256],
     old: &[u8],
     registers_before: &[u64; 256],
-)
+) -> io::Result<()>
     requires { Fits d × (65536 ≡ length memory.old) × (65536 ≡ length old.now) }
 {
     let bytes = d.bytes;
     step_lent(
+        out,
         d.record(),
         &mut memory[..bytes],
         registers,
         &old[..bytes],
         registers_before,
-    );
+    )
 }
 
 // One step, what it changed, and the deck of the state afterwards.
-pub fn step() {
-    let mut memory = io::large_buffer();
+pub fn step(stdin: &mut impl Read, out: &impl Print, err: &impl Print) -> io::Result<()> {
+    let mut memory = [0u8; 65536];
     let mut registers = [0u64; 256];
-    let reading = input(&mut memory, &mut registers);
+    let reading = input(stdin, err, &mut memory, &mut registers)?;
     let memory_before = memory;
     let registers_before = registers;
     match reading {
         Reading::Deck(d) => step_deck(
+            out,
             d,
             &mut memory,
             &mut registers,
             &memory_before,
             &registers_before,
         ),
-        Reading::Wrong => {}
+        Reading::Wrong => Ok(()),
     }
 }
 
-fn list_lent(rec: Record, memory: &mut [u8], registers: &mut [u64; 256], most: u32) {
+fn list_lent(
+    out: &impl Print,
+    rec: Record,
+    memory: &mut [u8],
+    registers: &mut [u64; 256],
+    most: u32,
+) -> io::Result<()> {
     let r = calls::run(memory, registers, rec, 0);
     let answer = r.answer;
     if is_paused(answer) {
-        progress(rec, registers);
+        progress(out, rec, registers)?;
     } else {
-        text(b"# answer ");
-        answers::tell(answer);
-        text(b"\n");
+        text(out, b"# answer ")?;
+        answers::tell(out, answer)?;
+        text(out, b"\n")?;
     }
-    listing::from(rec.p, memory, registers, most);
+    listing::from(out, rec.p, memory, registers, most)
 }
 
-fn list_deck(d: Deck, memory: &mut [u8], registers: &mut [u64; 256], most: u32)
+fn list_deck(
+    out: &impl Print,
+    d: Deck,
+    memory: &mut [u8],
+    registers: &mut [u64; 256],
+    most: u32,
+) -> io::Result<()>
     requires { Fits d × (65536 ≡ length memory.old) }
 {
     let bytes = d.bytes;
-    list_lent(d.record(), &mut memory[..bytes], registers, most);
+    list_lent(out, d.record(), &mut memory[..bytes], registers, most)
 }
 
 // What is half done, and the instructions from P on.
-pub fn list(most: u32) {
-    let mut memory = io::large_buffer();
+pub fn list(
+    stdin: &mut impl Read,
+    out: &impl Print,
+    err: &impl Print,
+    most: u32,
+) -> io::Result<()> {
+    let mut memory = [0u8; 65536];
     let mut registers = [0u64; 256];
-    let reading = input(&mut memory, &mut registers);
+    let reading = input(stdin, err, &mut memory, &mut registers)?;
     match reading {
-        Reading::Deck(d) => list_deck(d, &mut memory, &mut registers, most),
-        Reading::Wrong => {}
+        Reading::Deck(d) => list_deck(out, d, &mut memory, &mut registers, most),
+        Reading::Wrong => Ok(()),
     }
 }

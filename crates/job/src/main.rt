@@ -13,13 +13,16 @@ mod changes; // what one step changed, in words
 mod jobs; // run, step and list
 
 use command::Command;
+use std::io;
 
-fn main() {
-    let command = command::given();
+fn main(rt: HostRuntime) -> io::Result<()> {
+    let mut stdin = rt.stdin();
+    let err = rt.stderr();
+    let command = command::given(&rt);
     match command {
-        Command::Run(budget) => jobs::run(budget),
-        Command::Step => jobs::step(),
-        Command::List(most) => jobs::list(most),
-        Command::Wrong(fault) => faults::of_command(fault),
+        Command::Run(budget) => jobs::run(&mut stdin, &rt, &err, budget),
+        Command::Step => jobs::step(&mut stdin, &rt, &err),
+        Command::List(most) => jobs::list(&mut stdin, &rt, &err, most),
+        Command::Wrong(fault) => faults::of_command(&err, fault),
     }
 }

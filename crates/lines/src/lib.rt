@@ -1,18 +1,36 @@
-// A text on standard output, and a number behind it: the parts of a line that the programs write.
+// What the programs read and write: a text and a number behind it, the parts of a line; and a buffer that is filled.
 #![tactic(auto)]
 
-use libc::STDOUT_FILENO;
+ghost use Rattle.std.specs.Prelude.{◌≤◌, length, IfOk};
 
-pub fn text(what: &[u8]) {
-    io::write_all(STDOUT_FILENO, what);
+use std::io;
+use std::io::Read;
+
+pub fn text(out: &impl Print, what: &[u8]) -> io::Result<()> {
+    out.write_all(what)
 }
 
-pub fn hex(what: &[u8], value: u64, width: usize) {
-    text(what);
-    io::print_hex(STDOUT_FILENO, value, width);
+pub fn hex(out: &impl Print, what: &[u8], value: u64, width: usize) -> io::Result<()> {
+    text(out, what)?;
+    print!(out; "{value:0width$x}")
 }
 
-pub fn decimal(what: &[u8], value: u64) {
-    text(what);
-    io::print_decimal(STDOUT_FILENO, value);
+pub fn decimal(out: &impl Print, what: &[u8], value: u64) -> io::Result<()> {
+    text(out, what)?;
+    print!(out; "{value}")
+}
+
+// Reads until the place is full or the input ends, and returns how many bytes stand at its start.
+pub fn read_full(input: &mut impl Read, place: &mut [u8]) -> io::Result<usize>
+    ensures { IfOk result (λ n. n ≤ length place.new) }
+{
+    let mut done = 0;
+    while done < place.len() {
+        let n = input.read(&mut place[done..])?;
+        if n == 0 {
+            break;
+        }
+        done += n;
+    }
+    Ok(done)
 }

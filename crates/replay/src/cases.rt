@@ -4,8 +4,10 @@ ghost use Rattle.replay.specs.Cases.{Space};
 
 use crate::{parts, words};
 use fields::bytes;
-use libc::{STDERR_FILENO, STDIN_FILENO, STDOUT_FILENO};
+use lines::{decimal, read_full, text};
 use runs::records::Record;
+use std::io;
+use std::io::Read;
 
 // What a header says, but for the count of registers.
 #[derive(Clone, Copy)]
@@ -17,26 +19,25 @@ struct Asked {
 }
 
 // Says what is wrong with a case. Nothing after it is read.
-fn refuse(case: u64, what: &[u8]) -> bool {
-    io::write_all(STDERR_FILENO, b"case ");
-    io::print_decimal(STDERR_FILENO, case);
-    io::write_all(STDERR_FILENO, b": ");
-    io::write_all(STDERR_FILENO, what);
-    io::write_all(STDERR_FILENO, b"\n");
-    false
+fn refuse(err: &impl Print, case: u64, what: &[u8]) -> io::Result<bool> {
+    decimal(err, b"case ", case)?;
+    text(err, b": ")?;
+    text(err, what)?;
+    text(err, b"\n")?;
+    Ok(false)
 }
 
 // Does the stream have all the bytes of the place?
-fn filled(place: &mut [u8]) -> bool {
-    let got = io::read_full(STDIN_FILENO, place);
-    got == place.len()
+fn filled(stdin: &mut impl Read, place: &mut [u8]) -> io::Result<bool> {
+    let got = read_full(stdin, place)?;
+    Ok(got == place.len())
 }
 
 // Does the output take the first bytes of the space?
-fn written(space: &[u8], end: usize) -> bool
+fn written(out: &impl Print, space: &[u8], end: usize) -> bool
     requires { end ≤ length space.now }
 {
-    io::write_all(STDOUT_FILENO, &space[..end])
+    text(out, &space[..end]).is_ok()
 }
 
 // The bytes with those that fill them up to a multiple of 8.
@@ -66,25 +67,40 @@ fn answer(asked: Asked, start: usize, space: &mut [u8], registers: &mut [u64])
 }
 
 // A case whose header was read: is its result written?
-fn rest(case: u64, asked: Asked, space: &mut [u8], registers: &mut [u64]) -> bool
+fn rest(
+    stdin: &mut impl Read,
+    out: &impl Print,
+    err: &impl Print,
+    case: u64,
+    asked: Asked,
+    space: &mut [u8],
+    registers: &mut [u64],
+) -> io::Result<bool>
     requires { (length registers.old ≤ 512) × (asked.size ≤ 65536) × Space space.old }
 {
     let start = 56 + 8 * registers.len();
     let last = start + asked.size;
     let end = start + padded(asked.size);
-    if !filled(&mut space[56..end]) {
-        return refuse(case, b"the stream ends in its registers or its memory");
+    if !filled(stdin, &mut space[56..end])? {
+        return refuse(err, case, b"the stream ends in its registers or its memory");
     }
     words::clear(&mut space[last..end]);
     answer(asked, start, space, registers);
-    if !written(space, end) {
-        return refuse(case, b"its result cannot be written");
+    if !written(out, space, end) {
+        return refuse(err, case, b"its result cannot be written");
     }
-    true
+    Ok(true)
 }
 
 // A case whose header is in the space.
-fn judged(case: u64, space: &mut [u8], registers: &mut [u64]) -> bool
+fn judged(
+    stdin: &mut impl Read,
+    out: &impl Print,
+    err: &impl Print,
+    case: u64,
+    space: &mut [u8],
+    registers: &mut [u64],
+) -> io::Result<bool>
     requires { (512 ≡ length registers.old) × Space space.old }
 {
     let size = bytes::word(space, 0);
@@ -92,16 +108,16 @@ fn judged(case: u64, space: &mut [u8], registers: &mut [u64]) -> bool
     let budget = bytes::word(space, 56);
     let part = bytes::word(space, 64);
     if size > 65536 {
-        return refuse(case, b"its memory has more than 65536 bytes");
+        return refuse(err, case, b"its memory has more than 65536 bytes");
     }
     if count > 512 {
-        return refuse(case, b"it has more than 512 registers");
+        return refuse(err, case, b"it has more than 512 registers");
     }
     if budget > 0xFFFF_FFFF {
-        return refuse(case, b"its budget is not below 2^32");
+        return refuse(err, case, b"its budget is not below 2^32");
     }
     if part > 0xFFFF_FFFF {
-        return refuse(case, b"its part is not below 2^32");
+        return refuse(err, case, b"its part is not below 2^32");
     }
     let rec = words::record(space);
     let asked = Asked {
@@ -111,29 +127,43 @@ fn judged(case: u64, space: &mut [u8], registers: &mut [u64]) -> bool
         part: part as u32,
     };
     let n = count as usize;
-    rest(case, asked, space, &mut registers[..n])
+    rest(stdin, out, err, case, asked, space, &mut registers[..n])
 }
 
 // The next case: is there one, and is its result written?
-fn next(case: u64, space: &mut [u8], registers: &mut [u64]) -> bool
+fn next(
+    stdin: &mut impl Read,
+    out: &impl Print,
+    err: &impl Print,
+    case: u64,
+    space: &mut [u8],
+    registers: &mut [u64],
+) -> io::Result<bool>
     requires { (512 ≡ length registers.old) × Space space.old }
 {
-    let got = io::read_full(STDIN_FILENO, &mut space[..72]);
+    let got = read_full(stdin, &mut space[..72])?;
     if got == 0 {
-        return false;
+        return Ok(false);
     }
     if got < 72 {
-        return refuse(case, b"the stream ends in its header");
+        return refuse(err, case, b"the stream ends in its header");
     }
-    judged(case, space, registers)
+    judged(stdin, out, err, case, space, registers)
 }
 
 // Every case of the stream. A proved loop has to end, and nothing says that a stream does: it counts up to a number that no run reaches.
-pub fn all(space: &mut [u8], registers: &mut [u64])
+pub fn all(
+    stdin: &mut impl Read,
+    out: &impl Print,
+    err: &impl Print,
+    space: &mut [u8],
+    registers: &mut [u64],
+) -> io::Result<()>
     requires { (512 ≡ length registers.old) × Space space.old }
 {
     let mut case: u64 = 1;
-    while case < u64::MAX && next(case, space, registers) {
+    while case < u64::MAX && next(stdin, out, err, case, space, registers)? {
         case += 1;
     }
+    Ok(())
 }

@@ -18,8 +18,12 @@ mod cases; // a case, read, worked and answered
 mod parts; // the calls of a case
 mod words; // the words of a case and of its result
 
-fn main() {
+use std::io;
+
+fn main(rt: HostRuntime) -> io::Result<()> {
     let mut space = [0u8; 69688];
     let mut registers = [0u64; 512];
-    cases::all(&mut space, &mut registers);
+    let mut stdin = rt.stdin();
+    let err = rt.stderr();
+    cases::all(&mut stdin, &rt, &err, &mut space, &mut registers)
 }

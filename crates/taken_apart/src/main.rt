@@ -9,17 +9,19 @@ mod of_steps; // runs of real steps
 mod of_table; // the table, row by row
 mod of_words; // words, their parts, and 5, 6 and 7 both ways
 
-fn main() {
-    of_steps::reservoir();
-    of_steps::over_its_own_word();
-    of_steps::a_refusal();
-    of_refusals::records();
-    of_refusals::twelve_bytes();
-    of_refusals::too_few_registers();
-    of_refusals::of_other_lengths();
-    of_table::rows();
-    of_words::each_code();
-    of_words::listed();
-    of_words::refused();
-    of_words::of_parts();
+use std::io;
+
+fn main(rt: HostRuntime) -> io::Result<()> {
+    of_steps::reservoir(&rt)?;
+    of_steps::over_its_own_word(&rt)?;
+    of_steps::a_refusal(&rt)?;
+    of_refusals::records(&rt)?;
+    of_refusals::twelve_bytes(&rt)?;
+    of_refusals::too_few_registers(&rt)?;
+    of_refusals::of_other_lengths(&rt)?;
+    of_table::rows(&rt)?;
+    of_words::each_code(&rt)?;
+    of_words::listed(&rt)?;
+    of_words::refused(&rt)?;
+    of_words::of_parts(&rt)
 }

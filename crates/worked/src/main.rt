@@ -9,25 +9,27 @@ mod of_numbers; // 70 to 72, 76, 77, 7A to 7C and their vectors: the numbers tha
 mod of_words; // 2C to 2E, 63, 67, 83, 87, 8A: sums, differences and shifts that 000 and 003 work out
 mod printed; // the numbers that stand in several cases
 
-fn main() {
-    of_numbers::wholes();
-    of_numbers::shifted_wholes();
-    of_numbers::contracts();
-    of_numbers::contract_table();
-    of_numbers::parts();
-    of_numbers::vectors();
-    of_words::logic();
-    of_words::sums();
-    of_words::differences();
-    of_words::vectors();
-    of_words::shifts();
-    of_fields::bits();
-    of_fields::moves();
-    of_fields::vectors_end();
-    of_fields::vectors_of_no_items();
-    of_fields::loads_and_stores();
-    of_branches::packed();
-    of_branches::targets();
-    of_branches::sums();
-    of_branches::order();
+use std::io;
+
+fn main(rt: HostRuntime) -> io::Result<()> {
+    of_numbers::wholes(&rt)?;
+    of_numbers::shifted_wholes(&rt)?;
+    of_numbers::contracts(&rt)?;
+    of_numbers::contract_table(&rt)?;
+    of_numbers::parts(&rt)?;
+    of_numbers::vectors(&rt)?;
+    of_words::logic(&rt)?;
+    of_words::sums(&rt)?;
+    of_words::differences(&rt)?;
+    of_words::vectors(&rt)?;
+    of_words::shifts(&rt)?;
+    of_fields::bits(&rt)?;
+    of_fields::moves(&rt)?;
+    of_fields::vectors_end(&rt)?;
+    of_fields::vectors_of_no_items(&rt)?;
+    of_fields::loads_and_stores(&rt)?;
+    of_branches::packed(&rt)?;
+    of_branches::targets(&rt)?;
+    of_branches::sums(&rt)?;
+    of_branches::order(&rt)
 }

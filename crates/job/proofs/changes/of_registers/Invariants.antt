@@ -3,7 +3,7 @@ use Rattle.std.proofs.Common.{◌-◌, ◌≤◌}
 use Rattle.job.proofs.changes.of_registers.Given as goal
 
 abbrev pub invariant-loop-i : goal.invariant-loop-i
-invariant-loop-i l = l.i ≤ 256
+invariant-loop-i g l = l.i ≤ 256
 
 abbrev pub decreases-loop-i : goal.decreases-loop-i
-decreases-loop-i l = 256 - l.i
+decreases-loop-i g l = 256 - l.i

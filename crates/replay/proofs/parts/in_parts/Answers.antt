@@ -52,9 +52,9 @@ loop-k-preserved c =
     let left₀ = c.args.budget - c.least-first.result in
     let some : 0 < k = omega (arith, goes l.sum l.left (sym c.goes_on.ensures ∙ c.loop-k-test.true), c.least-k.ensures, c.requires) in
     let all : (j : ℕ) → j + (left₀ - l.left) + k ≡ j + (left₀ - (l.left - k)) = λ j. omega (arith, l.invariant.1.1.0, c.least-k.ensures) in (
-      c.run-last.auto.0 ∙ l.invariant.0,
+      c.run-last.auto.memory ∙ l.invariant.0,
       (
-        c.run-last.auto.1.0 ∙ l.invariant.1.0,
+        c.run-last.auto.registers ∙ l.invariant.1.0,
         (
           omega (arith, l.invariant.1.1.0),
           λ j s e.
@@ -65,10 +65,10 @@ loop-k-preserved c =
     )
 
 pub shape_of-memory : goal.shape_of-memory
-shape_of-memory c = c.loop-k.invariant.0 ∙ c.run-sum.auto.0
+shape_of-memory c = c.loop-k.invariant.0 ∙ c.run-sum.auto.memory
 
 pub shape_of-registers : goal.shape_of-registers
-shape_of-registers c = c.loop-k.invariant.1.0 ∙ c.run-sum.auto.1.0
+shape_of-registers c = c.loop-k.invariant.1.0 ∙ c.run-sum.auto.registers
 
 pub returns : goal.returns
 returns c =
