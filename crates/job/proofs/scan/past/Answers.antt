@@ -1,4 +1,4 @@
-use Rattle.std.proofs.Common.{◌-◌, arith}
+use Rattle.std.proofs.Common.{arith}
 use Rattle.job.proofs.scan.past.Goals as goal
 
 -- src/scan.rt:49:5
