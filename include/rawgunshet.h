@@ -1,7 +1,7 @@
 /*
  * Rawgunshet for hosts in C and C++: one call that runs a job for a number of steps.
  *
- * The code is for x86-64 on Linux. `rt staticlib runs` proves it and writes target/staticlib/libruns.a:
+ * The code is for x86-64 on Linux. `tools/build runs_c` proves it and writes target/staticlib/libruns.a:
  *
  *     cc -I include host.c target/staticlib/libruns.a
  *
