@@ -20,6 +20,10 @@ USE = re.compile(r"(?m)^ *(?:pub )?(?:ghost )?use ([^\s{;]+?)(?:\.\{([^}]*)\})?(
 OWN = set("numbers fields instructions runs lines examples worked taken_apart job replay".split())
 # Fields of a record beside functions of the same words.
 CHOSEN = {"span-r": "spans_r", "span-s": "spans_s"}
+# Locals: one that port.py had taken for a word of the library, and three of two words.
+LOCALS = {"is_IsWord": "is_word", "isLong": "is_long", "endsKind": "ends_kind", "is-decoded": "is_decoded", "not-items": "not_items"}
+# Several constructors of one type, or variables, in a line.
+SEVERAL = re.compile(r"(?m)^ +((?:[a-z]" + NAME[:-1] + r"* ){2,}): ")
 # What port.py had respelled already, for the pages alone.
 BEFORE = """
 a-byte add-at add-done add-low add-r addend-small after-items all-codes all-pass and-assoc and-both and-first as-long as-wide at-length
@@ -83,7 +87,7 @@ def imports(text):
 
 
 def is_proof(path):
-    return os.path.basename(path) == "Proof.antt"
+    return os.path.basename(path) in ("Proof.antt", "Answers.antt", "Invariants.antt")
 
 
 def table():
@@ -94,10 +98,11 @@ def table():
         taken |= {n for n, at in imports(text) if not own_path(at)}
         if not is_proof(path):
             names |= {m[2] for m in DECLARED.finditer(bare(text)) if m[2][0].islower()}
+            names |= {n for m in SEVERAL.finditer(bare(text)) for n in m[1].split()}
     taken |= {n for n in names if snake(n) == n} | {snake(n) for n in names if "-" not in n}
     new = {n: snake(n) for n in names if snake(n) != n}
     new = {k: v + "_lem" if "-" in k and v in taken else v for k, v in new.items()}
-    return new | {k: v for k, v in CHOSEN.items() if k in new}
+    return new | {k: v for k, v in CHOSEN.items() if k in new} | LOCALS
 
 
 def turned(text, new, comments=True):
@@ -117,7 +122,7 @@ def of_file(path, text, new):
         return part
     mine = {n for n, at in imports(text) if own_path(at) and not of_rattle(at)}
     lemmas = {}
-    for m in DECLARED.finditer(bare(text)):
+    for m in DECLARED.finditer(bare(text)) if os.path.basename(path) == "Proof.antt" else ():
         rest = bare(text)[m.end() :].split("\n", 1)[0]
         if m[2][0].islower() and "tie." not in rest.split("→")[-1] and not m[2].endswith("-spec") and snake(m[2]) != m[2]:
             lemmas[m[2]] = snake(m[2])

@@ -23,7 +23,7 @@ use Rattle.instructions.specs.declared.items.Control.TheVariants.{Every, Where}
 use Rattle.instructions.specs.declared.items.SecondBits.TheVariants.{From, Zeros}
 use Rattle.instructions.specs.declared.effects.Next.TheVariants.{Following, Target}
 use Rattle.fields.specs.declared.units.BitAddress.{BitAddress}
-use Rattle.instructions.specs.Meanings.{plain, goes_by_items, kind_for, to_t, to_half_t, loadsByte, loadsWord, storesByte, storesWord, gathers, each_of_a_b, each_of_a, half_of_a, moves, Meaning, unlisted, exits, acts, branches, works}
+use Rattle.instructions.specs.Meanings.{plain, goes_by_items, kind_for, to_t, to_half_t, loads_byte, loads_word, stores_byte, stores_word, gathers, each_of_a_b, each_of_a, half_of_a, moves, Meaning, unlisted, exits, acts, branches, works}
 use Rattle.instructions.specs.Table.{Line, table, meaning_of}
 use Rattle.instructions.specs.Operands.{code_in, found_in, meaning_in, row_says, g_bit, length_in, indexed}
 use Rattle.instructions.specs.declared.table.Found.{Found}
@@ -43,7 +43,7 @@ use Rattle.instructions.proofs.Codes.{Before, Result, ends, becomes, Does, codes
 use Rattle.instructions.proofs.VerdictTests.{never, both_true}
 use Rattle.instructions.proofs.VerdictOrder.{Passes, next, verdict_none, only_one}
 use Rattle.instructions.proofs.TablePlaces.{every}
-use Rattle.instructions.proofs.TableRules.{ends as endsKind, In, here, there, one_meaning, its}
+use Rattle.instructions.proofs.TableRules.{ends as ends_kind, In, here, there, one_meaning, its}
 use Rattle.instructions.proofs.Addressed.{cleared}
 use Rattle.instructions.proofs.Passing.{sound}
 use Rattle.instructions.proofs.Readied.{accepted}
@@ -55,10 +55,10 @@ comes_of unlisted s = ends
 comes_of exits s = ends
 comes_of (acts (to_t f)) s = C.to_t s (f (C.R s) (C.S s))
 comes_of (acts (to_half_t f)) s = C.to_half_t s (f (C.R s) (C.S s))
-comes_of (acts loadsByte) s = C.to_t s (plain (C.bits_from s (C.byte_at s) 8))
-comes_of (acts loadsWord) s = C.to_t s (plain (C.bits_from s (C.word_at s) 64))
-comes_of (acts storesByte) s = C.to_memory s (C.byte_at s) 8 (field 64 56 8 (C.T s))
-comes_of (acts storesWord) s = C.to_memory s (C.word_at s) 64 (C.T s)
+comes_of (acts loads_byte) s = C.to_t s (plain (C.bits_from s (C.byte_at s) 8))
+comes_of (acts loads_word) s = C.to_t s (plain (C.bits_from s (C.word_at s) 64))
+comes_of (acts stores_byte) s = C.to_memory s (C.byte_at s) 8 (field 64 56 8 (C.T s))
+comes_of (acts stores_word) s = C.to_memory s (C.word_at s) 64 (C.T s)
 comes_of (branches c) s = C.to_c s c
 comes_of (works (gathers rule)) s = C.bits_of_t s (bit_items rule (C.runs s)) (taken_by rule (C.runs s))
 comes_of (works (each_of_a_b f)) s = C.items_of_c s 64 (λ i. f (C.item_a s i) (C.item_b s i))
@@ -80,14 +80,14 @@ module _ (s : Before) (lent : right_length s.bytes ≡ true) (passes : verdict_o
   L = 8 * s.bytes
 
   -- its code is listed, and is not the exit's
-  not_ending : endsKind (kind_for (meaning_in s.word)) ≡ false
+  not_ending : ends_kind (kind_for (meaning_in s.word)) ≡ false
   not_ending = go ((verdict_none s.p s.word (C.named s) s.bytes).0 passes)
     where
-      listed : (f : Found) → found_in s.word ≡ f → row_says true (λ r. false) f ≡ false → eqb (code_in s.word) 0x09 ≡ false → endsKind (kind_for (meaning_in s.word)) ≡ false
-      listed (At r) e h x = let i = its (code_in s.word) r e in ap endsKind (sym i.kind) ∙ i.exit ∙ x
+      listed : (f : Found) → found_in s.word ≡ f → row_says true (λ r. false) f ≡ false → eqb (code_in s.word) 0x09 ≡ false → ends_kind (kind_for (meaning_in s.word)) ≡ false
+      listed (At r) e h x = let i = its (code_in s.word) r e in ap ends_kind (sym i.kind) ∙ i.exit ∙ x
       listed Nothing e h x = never h
 
-      go : Passes (case_of s.p s.word (C.named s) s.bytes) checks → endsKind (kind_for (meaning_in s.word)) ≡ false
+      go : Passes (case_of s.p s.word (C.named s) s.bytes) checks → ends_kind (kind_for (meaning_in s.word)) ≡ false
       go (next _ (next h (next _ (next _ (next x _))))) = listed (found_in s.word) refl h x
 
   -- P does not wrap
@@ -108,16 +108,16 @@ module _ (s : Before) (lent : right_length s.bytes ≡ true) (passes : verdict_o
   unfolding by_items acts_of scalar_of branch_of taken_of
   acts_as_listed other = go (meaning_in s.word) refl other not_ending
     where
-      go : (m : Meaning) → meaning_in s.word ≡ m → goes_by_items m ≡ false → endsKind (kind_for m) ≡ false
+      go : (m : Meaning) → meaning_in s.word ≡ m → goes_by_items m ≡ false → ends_kind (kind_for m) ≡ false
           → becomes (done_by (outcome_in m s.word (C.named s) s.bytes s.memory) s.p (length_of s.word) s.bytes s.memory s.registers s.flags) ≡ comes_of m s
       go unlisted e h x = never x
       go exits e h x = never x
       go (acts (to_t f)) e h x = rw on
       go (acts (to_half_t f)) e h x = rw on
-      go (acts loadsByte) e h x = rw (on, cleared _)
-      go (acts loadsWord) e h x = rw on
-      go (acts storesByte) e h x = rw (on, or_zero_r s.flags)
-      go (acts storesWord) e h x = rw (on, or_zero_r s.flags)
+      go (acts loads_byte) e h x = rw (on, cleared _)
+      go (acts loads_word) e h x = rw on
+      go (acts stores_byte) e h x = rw (on, or_zero_r s.flags)
+      go (acts stores_word) e h x = rw (on, or_zero_r s.flags)
       go (branches c) e h x = rw (e, gone _ (target_of (C.named s)), or_zero_r s.flags)
       go (works k) e h x = never h
 

@@ -10,7 +10,7 @@ use Rattle.fields.specs.Bytes.{num}
 use Rattle.numbers.specs.declared.division.Rounding.TheVariants.{Zero, Down, Up}
 use Rattle.numbers.proofs.Raised.{Among, either, whole_flags, contract_flags}
 use Rattle.instructions.specs.declared.operands.Operands.{Operands}
-use Rattle.instructions.specs.Meanings.{to_t, to_half_t, loadsByte, loadsWord, storesByte, storesWord, gathers, each_of_a_b, each_of_a, half_of_a, moves, Meaning, unlisted, exits, acts, branches, works}
+use Rattle.instructions.specs.Meanings.{to_t, to_half_t, loads_byte, loads_word, stores_byte, stores_word, gathers, each_of_a_b, each_of_a, half_of_a, moves, Meaning, unlisted, exits, acts, branches, works}
 use Rattle.instructions.specs.Table.{Line, table, meaning_of}
 use Rattle.instructions.specs.Operands.{code_in, meaning_in}
 use Rattle.instructions.specs.Branches.{branch_of}
@@ -36,10 +36,10 @@ Raises unlisted = Unit {0}
 Raises exits = Unit {0}
 Raises (acts (to_t f)) = (x y : ℕ) → Among (f x y).flags
 Raises (acts (to_half_t f)) = (x y : ℕ) → Among (f x y).flags
-Raises (acts loadsByte) = Unit {0}
-Raises (acts loadsWord) = Unit {0}
-Raises (acts storesByte) = Unit {0}
-Raises (acts storesWord) = Unit {0}
+Raises (acts loads_byte) = Unit {0}
+Raises (acts loads_word) = Unit {0}
+Raises (acts stores_byte) = Unit {0}
+Raises (acts stores_word) = Unit {0}
 Raises (branches c) = Unit {0}
 Raises (works (gathers rule)) = Unit {0}
 Raises (works (each_of_a_b f)) = (x y : ℕ) → Among (f x y).flags
@@ -66,10 +66,10 @@ module _ (w : ℕ) (o : Operands) (n x : ℕ) where
       go exits r = refl
       go (acts (to_t f)) r = r _ _
       go (acts (to_half_t f)) r = r _ _
-      go (acts loadsByte) r = refl
-      go (acts loadsWord) r = refl
-      go (acts storesByte) r = refl
-      go (acts storesWord) r = refl
+      go (acts loads_byte) r = refl
+      go (acts loads_word) r = refl
+      go (acts stores_byte) r = refl
+      go (acts stores_word) r = refl
       go (branches c) r = refl
       go (works k) r = refl
 
@@ -85,9 +85,9 @@ reached_reaches w o m h = go (meaning_in w) h
     go exits h = tt
     go (acts (to_t f)) h = tt
     go (acts (to_half_t f)) h = tt
-    go (acts loadsByte) h = tt
-    go (acts loadsWord) h = tt
-    go (acts storesByte) h = h
-    go (acts storesWord) h = h
+    go (acts loads_byte) h = tt
+    go (acts loads_word) h = tt
+    go (acts stores_byte) h = h
+    go (acts stores_word) h = h
     go (branches c) h = tt
     go (works k) h = tt

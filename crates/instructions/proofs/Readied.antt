@@ -30,7 +30,7 @@ use Rattle.instructions.specs.declared.layout.Fields.{Fields}
 use Rattle.instructions.specs.declared.items.Control.TheVariants.{Every, Where}
 use Rattle.instructions.specs.declared.items.Rule.{Rule}
 use Rattle.instructions.specs.declared.items.SecondBits.TheVariants.{From, Zeros}
-use Rattle.instructions.specs.Meanings.{to_t, to_half_t, loadsByte, loadsWord, storesByte, storesWord, Work, gathers, each_of_a_b, each_of_a, half_of_a, moves, Meaning, unlisted, exits, acts, branches, works, goes_by_items, kind_for}
+use Rattle.instructions.specs.Meanings.{to_t, to_half_t, loads_byte, loads_word, stores_byte, stores_word, Work, gathers, each_of_a_b, each_of_a, half_of_a, moves, Meaning, unlisted, exits, acts, branches, works, goes_by_items, kind_for}
 use Rattle.instructions.specs.Operands.{meaning_in, g_bit, length_in, base_in, indexed, address_in}
 use Rattle.instructions.specs.Layout.{source_of, control_of, result_of, vector_of, runs_of, zeros_of, compress_of, merge_of, mask_of, move_of, of_kind}
 use Rattle.instructions.specs.Verdict.{clash, verdict_of}
@@ -341,9 +341,9 @@ reached m p w o passes = go (meaning_in w) (meant_passes p w o (length m) passes
     go exits q = tt
     go (acts (to_t f)) q = tt
     go (acts (to_half_t f)) q = tt
-    go (acts loadsByte) q = byte_there m (address_in Byte o) q.first_aligned q.first_inside
-    go (acts loadsWord) q = word_there m (address_in Word o) q.first_aligned q.first_inside
-    go (acts storesByte) q = byte_there m (address_in Byte o) q.result_aligned q.result_inside
-    go (acts storesWord) q = word_there m (address_in Word o) q.result_aligned q.result_inside
+    go (acts loads_byte) q = byte_there m (address_in Byte o) q.first_aligned q.first_inside
+    go (acts loads_word) q = word_there m (address_in Word o) q.first_aligned q.first_inside
+    go (acts stores_byte) q = byte_there m (address_in Byte o) q.result_aligned q.result_inside
+    go (acts stores_word) q = word_there m (address_in Word o) q.result_aligned q.result_inside
     go (branches c) q = tt
     go (works k) q = tt

@@ -13,7 +13,7 @@ use Rattle.fields.specs.Field.{field}
 use Rattle.instructions.specs.declared.operands.Operands.{Operands}
 use Rattle.instructions.specs.declared.effects.Effect.{Effect}
 use Rattle.instructions.specs.declared.effects.Effect.TheVariants.{Nothing, Register, HalfRegister, Byte, Word}
-use Rattle.instructions.specs.Meanings.{to_t, to_half_t, loadsByte, loadsWord, storesByte, storesWord, Meaning, unlisted, exits, acts, branches, works}
+use Rattle.instructions.specs.Meanings.{to_t, to_half_t, loads_byte, loads_word, stores_byte, stores_word, Meaning, unlisted, exits, acts, branches, works}
 use Rattle.instructions.specs.Table.{named_of}
 use Rattle.instructions.specs.Operands.{code_in, found_in, meaning_in, row_says, supplied, gathered}
 use Rattle.instructions.specs.Words.{missing_at, missing}
@@ -99,10 +99,10 @@ module _ (p w : ℕ) (o : Operands) (bytes : ℕ) (passes : verdict_of p w o byt
   spares exits mask x t h i = tt
   spares (acts (to_t f)) mask x t h i = let_pass (field 64 24 8 mask) _ (eqb→eq _ 0xFF t) h
   spares (acts (to_half_t f)) mask x t h i = half_let_pass (field 64 24 8 mask) _ (eqb→eq _ 0xFE t) h
-  spares (acts loadsByte) mask x t h i = let_pass (field 64 24 8 mask) _ (eqb→eq _ 0xFF t) h
-  spares (acts loadsWord) mask x t h i = let_pass (field 64 24 8 mask) _ (eqb→eq _ 0xFF t) h
-  spares (acts storesByte) mask x t h i = tt
-  spares (acts storesWord) mask x t h i = tt
+  spares (acts loads_byte) mask x t h i = let_pass (field 64 24 8 mask) _ (eqb→eq _ 0xFF t) h
+  spares (acts loads_word) mask x t h i = let_pass (field 64 24 8 mask) _ (eqb→eq _ 0xFF t) h
+  spares (acts stores_byte) mask x t h i = tt
+  spares (acts stores_word) mask x t h i = tt
   spares (branches c) mask x t h i = let_pass (field 64 56 8 mask) _ (eqb→eq _ 0xFF t) i
   spares (works k) mask x t h i = tt
 

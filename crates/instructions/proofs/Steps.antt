@@ -16,7 +16,7 @@ use Rattle.instructions.specs.declared.operands.Operands.{Operands}
 use Rattle.instructions.specs.declared.layout.Fields.{Fields}
 use Rattle.instructions.specs.declared.effects.Outcome.{Outcome}
 use Rattle.instructions.specs.declared.effects.Next.TheVariants.{Following, Target}
-use Rattle.instructions.specs.Meanings.{to_t, to_half_t, loadsByte, loadsWord, storesByte, storesWord, gathers, each_of_a_b, each_of_a, half_of_a, moves, Meaning, unlisted, exits, acts, branches, works, kind_for}
+use Rattle.instructions.specs.Meanings.{to_t, to_half_t, loads_byte, loads_word, stores_byte, stores_word, gathers, each_of_a_b, each_of_a, half_of_a, moves, Meaning, unlisted, exits, acts, branches, works, kind_for}
 use Rattle.instructions.specs.Operands.{code_in, meaning_in}
 use Rattle.instructions.specs.Fetch.{long_in, length_of, there, unfetched_at}
 use Rattle.instructions.specs.Branches.{taken_of, target_of, branch_of}
@@ -151,10 +151,10 @@ scalar_goes w o bytes x = go (meaning_in w) (fields_mean w o)
     go exits f = inl refl
     go (acts (to_t g)) f = inl refl
     go (acts (to_half_t g)) f = inl refl
-    go (acts loadsByte) f = inl refl
-    go (acts loadsWord) f = inl refl
-    go (acts storesByte) f = inl refl
-    go (acts storesWord) f = inl refl
+    go (acts loads_byte) f = inl refl
+    go (acts loads_word) f = inl refl
+    go (acts stores_byte) f = inl refl
+    go (acts stores_word) f = inl refl
     go (branches c) f = branch_goes w o f
     go (works k) f = inl refl
 
@@ -162,7 +162,7 @@ scalar_goes w o bytes x = go (meaning_in w) (fields_mean w o)
 pub acts_place : (p word : ℕ) (o : Operands) (bytes memory : ℕ) (registers : List ℕ) (flags : ℕ) → right_length bytes ≡ true → verdict_of p word o bytes ≡ 0 → by_items word ≡ false
     → p < 2 ^ 48 → p % 32 ≡ 0 → ((acts_of p word o bytes memory registers flags).p < 2 ^ 48) × ((acts_of p word o bytes memory registers flags).p % 32 ≡ 0)
 unfolding acts_of
-acts_place p word o bytes memory registers flags lent passes not-items low whole = go (scalar_goes word o bytes memory)
+acts_place p word o bytes memory registers flags lent passes not_items low whole = go (scalar_goes word o bytes memory)
   where
     few : bytes ≤ 65536
     few = leb-true bytes 65536 (both_true (leb 8 bytes) (leb bytes 65536) (both_true (leb 8 bytes && leb bytes 65536) (eqb (bytes % 8) 0) lent).0).1

@@ -12,7 +12,7 @@ use Rattle.instructions.specs.declared.items.Rule.{Rule}
 use Rattle.instructions.specs.declared.table.Kind.{Kind}
 use Rattle.instructions.specs.declared.table.Row.{Row}
 use Rattle.instructions.specs.declared.table.Found.{Found}
-use Rattle.instructions.specs.Meanings.{goes_by_items, kind_for, to_t, to_half_t, loadsByte, loadsWord, storesByte, storesWord, gathers, each_of_a_b, each_of_a, half_of_a, moves, Meaning, unlisted, exits, acts, branches, works}
+use Rattle.instructions.specs.Meanings.{goes_by_items, kind_for, to_t, to_half_t, loads_byte, loads_word, stores_byte, stores_word, gathers, each_of_a_b, each_of_a, half_of_a, moves, Meaning, unlisted, exits, acts, branches, works}
 use Rattle.instructions.specs.Table.{at_s, at_x, at_y, G, Line, table, row_of, kind_of, long, vector_format, zero_bits, look_up, found, meaning_of, has_items}
 use Rattle.instructions.specs.Private.Inner.{code_of}
 use Rattle.instructions.proofs.Conjunctions.{and_first, and_rest}
@@ -68,10 +68,10 @@ format_is unlisted f = false
 format_is exits f = eqb f 0x4
 format_is (acts (to_t g)) f = eqb f 0x4 || eqb f 0xA
 format_is (acts (to_half_t g)) f = eqb f 0xA
-format_is (acts loadsByte) f = eqb f 0x7
-format_is (acts loadsWord) f = eqb f 0x7
-format_is (acts storesByte) f = eqb f 0x7
-format_is (acts storesWord) f = eqb f 0x7
+format_is (acts loads_byte) f = eqb f 0x7
+format_is (acts loads_word) f = eqb f 0x7
+format_is (acts stores_byte) f = eqb f 0x7
+format_is (acts stores_word) f = eqb f 0x7
 format_is (branches c) f = eqb f 0xC
 format_is (works (gathers rule)) f = eqb f 0x7
 format_is (works (each_of_a_b g)) f = eqb f 0x1
@@ -112,10 +112,10 @@ result_named unlisted named = true
 result_named exits named = true
 result_named (acts (to_t f)) named = eqb (field 64 24 8 named) 0xFF
 result_named (acts (to_half_t f)) named = eqb (field 64 24 8 named) 0xFE
-result_named (acts loadsByte) named = eqb (field 64 24 8 named) 0xFF
-result_named (acts loadsWord) named = eqb (field 64 24 8 named) 0xFF
-result_named (acts storesByte) named = true
-result_named (acts storesWord) named = true
+result_named (acts loads_byte) named = eqb (field 64 24 8 named) 0xFF
+result_named (acts loads_word) named = eqb (field 64 24 8 named) 0xFF
+result_named (acts stores_byte) named = true
+result_named (acts stores_word) named = true
 result_named (branches c) named = eqb (field 64 56 8 named) 0xFF
 result_named (works k) named = true
 
@@ -207,10 +207,10 @@ kind_items unlisted = refl
 kind_items exits = refl
 kind_items (acts (to_t f)) = refl
 kind_items (acts (to_half_t f)) = refl
-kind_items (acts loadsByte) = refl
-kind_items (acts loadsWord) = refl
-kind_items (acts storesByte) = refl
-kind_items (acts storesWord) = refl
+kind_items (acts loads_byte) = refl
+kind_items (acts loads_word) = refl
+kind_items (acts stores_byte) = refl
+kind_items (acts stores_word) = refl
 kind_items (branches c) = refl
 kind_items (works (gathers Rule.Compress)) = refl
 kind_items (works (gathers Rule.Merge)) = refl

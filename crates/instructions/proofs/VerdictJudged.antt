@@ -52,7 +52,7 @@ module _ (w : ℕ) (o : Operands) (n : ℕ) where
   refused_after Refusal.NotZero e = let q = (refused_6 w).0 e in rw (q.1, q.2)
   refused_after Refusal.NoMeaning e = let q = (refused_7 w).0 e in rw (q.1, q.2, q.3)
 
-  module _ (p : ℕ) (d : Decoded) (is-decoded : d ≡ decoded w) where
+  module _ (p : ℕ) (d : Decoded) (is_decoded : d ≡ decoded w) where
     parts : verdict_of p w o n ≡ cond (unfetched_at p (long_in w) n) 4 (after (found_in w))
     unfolding verdict_of refusal_of fields_of
     parts = refl
@@ -61,12 +61,12 @@ module _ (w : ℕ) (o : Operands) (n : ℕ) where
     refused_not_there u eu h = sym (parts ∙ rw (← eu, h))
 
     pub refused_word : (u : Bool) (why : Refusal) (v : ℕ) → u ≡ unfetched_at p (long_in w) n → u ≡ false → d ≡ Decoded.Refused why → v ≡ refusal_number why → v ≡ verdict_of p w o n
-    refused_word u why v eu h e ev = sym (parts ∙ rw (← eu, h) (refused_after why (sym is-decoded ∙ e)) ∙ sym ev)
+    refused_word u why v eu h e ev = sym (parts ∙ rw (← eu, h) (refused_after why (sym is_decoded ∙ e)) ∙ sym ev)
 
     module _ (r : Row) (e : d ≡ Decoded.Listed r) where
       its_length : long (format_of r) ≡ long_in w
       unfolding long_in
-      its_length = ap (λ (f : Found). row_says false (λ r. long (format_of r)) f) (sym ((listed_passes w r).0 (sym is-decoded ∙ e)).0)
+      its_length = ap (λ (f : Found). row_says false (λ r. long (format_of r)) f) (sym ((listed_passes w r).0 (sym is_decoded ∙ e)).0)
 
       pub listed_not_there : (u l : Bool) → l ≡ long (format_of r) → u ≡ unfetched_at p l n → u ≡ true → 4 ≡ verdict_of p w o n
       listed_not_there u l el eu h = refused_not_there u (eu ∙ ap (λ (t : Bool). unfetched_at p t n) (el ∙ its_length)) h
@@ -74,4 +74,4 @@ module _ (w : ℕ) (o : Operands) (n : ℕ) where
       pub listed_word : (u l : Bool) (v : ℕ) → l ≡ long (format_of r) → u ≡ unfetched_at p l n → u ≡ false → v ≡ listed_of r w o n → v ≡ verdict_of p w o n
       listed_word u l v el eu h ev =
           let q : u ≡ unfetched_at p (long_in w) n = eu ∙ ap (λ (t : Bool). unfetched_at p t n) (el ∙ its_length) in
-          sym (parts ∙ rw (← q, h) (listed_after r (sym is-decoded ∙ e)) ∙ sym ev)
+          sym (parts ∙ rw (← q, h) (listed_after r (sym is_decoded ∙ e)) ∙ sym ev)

@@ -166,27 +166,27 @@ module _ (w : ℕ) (o : Operands) (n p : ℕ) where
   unfolding one_step
   refused_step v e h = rw (← e, h)
 
-  module _ (d : Decoded) (is-decoded : d ≡ decoded w) where
+  module _ (d : Decoded) (is_decoded : d ≡ decoded w) where
     pub refused_no_step : (why : Refusal) → d ≡ Decoded.Refused why → false ≡ one_step p w o n
     refused_no_step why h = go (unfetched_at p (long_in w) n) refl
       where
         go : (u : Bool) → u ≡ unfetched_at p (long_in w) n → false ≡ one_step p w o n
-        go true e = refused_step 4 (refused_not_there w o n p d is-decoded true e refl) refl
-        go false e = refused_step (refusal_number why) (refused_word w o n p d is-decoded false why (refusal_number why) e refl h refl) (number_some why)
+        go true e = refused_step 4 (refused_not_there w o n p d is_decoded true e refl) refl
+        go false e = refused_step (refusal_number why) (refused_word w o n p d is_decoded false why (refusal_number why) e refl h refl) (number_some why)
 
     module _ (x : ℕ) (read : w ≡ fetch_of n x p) (r : Row) (e : d ≡ Decoded.Listed r) (u l : Bool) (el : l ≡ long (format_of r)) (eu : u ≡ cut_off p l n) where
       its_length : long_in w ≡ long (format_of r)
       unfolding long_in
-      its_length = ap (λ (f : Found). row_says false (λ r. long (format_of r)) f) ((listed_passes w r).0 (sym is-decoded ∙ e)).0
+      its_length = ap (λ (f : Found). row_says false (λ r. long (format_of r)) f) ((listed_passes w r).0 (sym is_decoded ∙ e)).0
 
       unfetched_is : u ≡ unfetched_at p (long_in w) n
-      unfetched_is = eu ∙ cut_unfetched n x p w r read (sym is-decoded ∙ e) l (el ∙ sym its_length)
+      unfetched_is = eu ∙ cut_unfetched n x p w r read (sym is_decoded ∙ e) l (el ∙ sym its_length)
 
       pub not_there_no_step : u ≡ true → false ≡ one_step p w o n
-      not_there_no_step h = refused_step 4 (refused_not_there w o n p d is-decoded u unfetched_is h) refl
+      not_there_no_step h = refused_step 4 (refused_not_there w o n p d is_decoded u unfetched_is h) refl
 
       found_row : found_in w ≡ Found.At r
-      found_row = ((listed_passes w r).0 (sym is-decoded ∙ e)).0
+      found_row = ((listed_passes w r).0 (sym is_decoded ∙ e)).0
 
       its_verdict : cond (ends (kind_of r)) 1 (refusal_of (of_kind (kind_of r) w o) n) ≡ listed_of r w o n
       unfolding listed_of refusal_of
@@ -197,7 +197,7 @@ module _ (w : ℕ) (o : Operands) (n p : ℕ) where
       its_items = (its (code_in w) r found_row).items
 
       judged : u ≡ false → listed_of r w o n ≡ verdict_of p w o n
-      judged h = listed_word w o n p d is-decoded r e u (long_in w) (listed_of r w o n) its_length unfetched_is h refl
+      judged h = listed_word w o n p d is_decoded r e u (long_in w) (listed_of r w o n) its_length unfetched_is h refl
 
       pub listed_step : (b : Bool) (k : Kind) → k ≡ kind_of r → u ≡ false → b ≡ one_step_of k w o n → b ≡ one_step p w o n
       unfolding one_step
@@ -226,7 +226,7 @@ ends_not Kind.OneSource h = refl
 ends_not Kind.HalfResult h = refl
 ends_not Kind.Move h = refl
 
-module _ (w : ℕ) (o : Operands) (n p : ℕ) (d : Decoded) (is-decoded : d ≡ decoded w) where
+module _ (w : ℕ) (o : Operands) (n p : ℕ) (d : Decoded) (is_decoded : d ≡ decoded w) where
   no_work : (v : ℕ) → v ≡ verdict_of p w o n → eqb v 0 ≡ false → false ≡ may_work p w o n
   unfolding may_work
   no_work v e h = rw (← e, h) (and_false (by_items w))
@@ -235,12 +235,12 @@ module _ (w : ℕ) (o : Operands) (n p : ℕ) (d : Decoded) (is-decoded : d ≡ 
   refused_no_work why h = go (unfetched_at p (long_in w) n) refl
     where
       go : (u : Bool) → u ≡ unfetched_at p (long_in w) n → false ≡ may_work p w o n
-      go true e = no_work 4 (refused_not_there w o n p d is-decoded true e refl) refl
-      go false e = no_work (refusal_number why) (refused_word w o n p d is-decoded false why (refusal_number why) e refl h refl) (number_some why)
+      go true e = no_work 4 (refused_not_there w o n p d is_decoded true e refl) refl
+      go false e = no_work (refusal_number why) (refused_word w o n p d is_decoded false why (refusal_number why) e refl h refl) (number_some why)
 
   module _ (r : Row) (e : d ≡ Decoded.Listed r) where
     row_of : Its (code_in w) r
-    row_of = its (code_in w) r ((listed_passes w r).0 (sym is-decoded ∙ e)).0
+    row_of = its (code_in w) r ((listed_passes w r).0 (sym is_decoded ∙ e)).0
 
     not_exit : ends (kind_of r) ≡ false → refusal_of (of_kind (kind_of r) w o) n ≡ listed_of r w o n
     unfolding listed_of refusal_of
@@ -252,11 +252,11 @@ module _ (w : ℕ) (o : Operands) (n p : ℕ) (d : Decoded) (is-decoded : d ≡ 
 
     module _ (u l : Bool) (el : l ≡ long (format_of r)) (eu : u ≡ unfetched_at p l n) where
       pub not_there_no_work : u ≡ true → false ≡ may_work p w o n
-      not_there_no_work h = no_work 4 (listed_not_there w o n p d is-decoded r e u l el eu h) refl
+      not_there_no_work h = no_work 4 (listed_not_there w o n p d is_decoded r e u l el eu h) refl
 
       pub work_judged : (b : Bool) (v : ℕ) → b ≡ has_items (kind_of r) → b ≡ true → u ≡ false → v ≡ refusal_of (of_kind (kind_of r) w o) n → eqb v 0 ≡ may_work p w o n
       unfolding may_work by_items
       work_judged b v eb hb h ev =
           let has : has_items (kind_of r) ≡ true = sym eb ∙ hb in
-          let q : refusal_of (of_kind (kind_of r) w o) n ≡ verdict_of p w o n = not_exit (ends_not (kind_of r) has) ∙ listed_word w o n p d is-decoded r e u l (listed_of r w o n) el eu h refl in
+          let q : refusal_of (of_kind (kind_of r) w o) n ≡ verdict_of p w o n = not_exit (ends_not (kind_of r) has) ∙ listed_word w o n p d is_decoded r e u l (listed_of r w o n) el eu h refl in
           rw (← row_of.items, has, ← q, ← ev)

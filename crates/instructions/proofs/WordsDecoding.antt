@@ -31,19 +31,19 @@ module _ (w k : ℕ) (f : Found) (is_code : k ≡ field 64 0 8 w) (is_found : f 
     pub listed : not_zero r w ≡ false → missing (named_of r) w ≡ false → Decoded.Listed r ≡ decoded w
     listed z m = sym (known (Found.At r) is_row ∙ rw (z, m))
 
-module _ (w : ℕ) (d : Decoded) (is-decoded : d ≡ decoded w) where
+module _ (w : ℕ) (d : Decoded) (is_decoded : d ≡ decoded w) where
   pub read_listed : (r : Row) (p : Parts) → d ≡ Decoded.Listed r → p ≡ parts_of w → Reading.Listed p ≡ reading w
   unfolding reading
-  read_listed r p e h = ap Reading.Listed h ∙ ap (reading_at w) (sym e ∙ is-decoded)
+  read_listed r p e h = ap Reading.Listed h ∙ ap (reading_at w) (sym e ∙ is_decoded)
 
   pub read_refused : (n : Refusal) → d ≡ Decoded.Refused n → Reading.Refused n ≡ reading w
   unfolding reading
-  read_refused n e = ap (reading_at w) (sym e ∙ is-decoded)
+  read_refused n e = ap (reading_at w) (sym e ∙ is_decoded)
 
-module _ (p : Parts) (w : ℕ) (d : Decoded) (is_IsWord : w ≡ joined p) (is-decoded : d ≡ decoded w) where
+module _ (p : Parts) (w : ℕ) (d : Decoded) (is_word : w ≡ joined p) (is_decoded : d ≡ decoded w) where
   put : (e : Decoded) → d ≡ e → assembled_at w e ≡ assembled p
   unfolding assembled
-  put e h = ap (assembled_at w) (sym h ∙ is-decoded) ∙ ap (λ (x : ℕ). assembled_at x (decoded x)) is_IsWord
+  put e h = ap (assembled_at w) (sym h ∙ is_decoded) ∙ ap (λ (x : ℕ). assembled_at x (decoded x)) is_word
 
   pub put_listed : (r : Row) → d ≡ Decoded.Listed r → Assembled.Word w ≡ assembled p
   put_listed r e = put (Decoded.Listed r) e

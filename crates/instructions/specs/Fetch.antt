@@ -33,4 +33,4 @@ fetch_of n x p = cond (long_in (two_halves_at n x p)) (two_halves_at n x p) (two
 
 -- §12.8: refusal 4: the half word at p is not there, or the word is long and its second half is not.
 unfoldable pub unfetched_at : ℕ → Bool → ℕ → Bool
-unfetched_at p isLong n = not (there p 1 n) || (isLong && not (there p 2 n))
+unfetched_at p is_long n = not (there p 1 n) || (is_long && not (there p 2 n))

@@ -37,8 +37,8 @@ less unsigned m n = cond unsigned (ltb (low48 m) (low48 n)) (lt_z (coefficient_a
 pub data Act : Type 0 where
   to_t : (ℕ → ℕ → Made) → Act  -- T becomes what is made of R and S
   to_half_t : (ℕ → ℕ → Made) → Act  -- T, a half word, becomes it
-  loadsByte loadsWord : Act  -- §5.4, §5.20: T becomes what is at R plus S bytes, or words
-  storesByte storesWord : Act  -- §5.5, §5.21: what is there becomes the right byte of T, or T
+  loads_byte loads_word : Act  -- §5.4, §5.20: T becomes what is at R plus S bytes, or words
+  stores_byte stores_word : Act  -- §5.5, §5.21: what is there becomes the right byte of T, or T
 
 -- §10.2: a vector, bit or move instruction: item by item.
 pub data Work : Type 0 where
@@ -70,10 +70,10 @@ kind_for unlisted = Kind.Exit
 kind_for exits = Kind.Exit
 kind_for (acts (to_t f)) = Kind.Register
 kind_for (acts (to_half_t f)) = Kind.Register
-kind_for (acts loadsByte) = Kind.LoadByte
-kind_for (acts loadsWord) = Kind.LoadWord
-kind_for (acts storesByte) = Kind.StoreByte
-kind_for (acts storesWord) = Kind.StoreWord
+kind_for (acts loads_byte) = Kind.LoadByte
+kind_for (acts loads_word) = Kind.LoadWord
+kind_for (acts stores_byte) = Kind.StoreByte
+kind_for (acts stores_word) = Kind.StoreWord
 kind_for (branches c) = Kind.Branch
 kind_for (works (gathers Rule.Compress)) = Kind.Compress
 kind_for (works (gathers Rule.Merge)) = Kind.Merge

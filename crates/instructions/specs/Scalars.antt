@@ -7,7 +7,7 @@ use Rattle.instructions.specs.declared.items.Made.{Made}
 use Rattle.instructions.specs.declared.operands.Operands.{Operands}
 use Rattle.instructions.specs.declared.effects.Outcome.{Outcome}
 use Rattle.instructions.specs.declared.effects.Effect.TheVariants.{Nothing, Register, HalfRegister, Byte, Word}
-use Rattle.instructions.specs.Meanings.{plain, Act, to_t, to_half_t, loadsByte, loadsWord, storesByte, storesWord, Meaning, unlisted, exits, acts, branches, works}
+use Rattle.instructions.specs.Meanings.{plain, Act, to_t, to_half_t, loads_byte, loads_word, stores_byte, stores_word, Meaning, unlisted, exits, acts, branches, works}
 use Rattle.instructions.specs.Operands.{meaning_in, R, S, T, address_in}
 use Rattle.instructions.specs.Effects.{falls_through}
 use Rattle.instructions.specs.Branches.{branch_of}
@@ -43,10 +43,10 @@ store_word_of o = falls_through (Word (address_in unit.Word o) (T o)) 0
 abbrev pub outcome_of : Act → ℕ → Operands → ℕ → ℕ → Outcome
 outcome_of (to_t f) w o n x = to_register (number_t w) (f (R o) (S o))
 outcome_of (to_half_t f) w o n x = to_half_register (number_t w) (f (R o) (S o))
-outcome_of loadsByte w o n x = load_byte_of (number_t w) o n x
-outcome_of loadsWord w o n x = load_word_of (number_t w) o n x
-outcome_of storesByte w o n x = store_byte_of o
-outcome_of storesWord w o n x = store_word_of o
+outcome_of loads_byte w o n x = load_byte_of (number_t w) o n x
+outcome_of loads_word w o n x = load_word_of (number_t w) o n x
+outcome_of stores_byte w o n x = store_byte_of o
+outcome_of stores_word w o n x = store_word_of o
 
 -- The same of any meaning; what is no register instruction and no branch has no effect here.
 abbrev pub outcome_in : Meaning → ℕ → Operands → ℕ → ℕ → Outcome

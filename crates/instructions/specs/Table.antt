@@ -12,7 +12,7 @@ use Rattle.instructions.specs.declared.table.Kind.{Kind}
 use Rattle.instructions.specs.declared.table.Row.{Row}
 use Rattle.instructions.specs.declared.table.Found.{Found}
 use Rattle.instructions.specs.declared.table.Found.TheVariants.{At, Nothing}
-use Rattle.instructions.specs.Meanings.{plain, of_word, of_half, same, less, Act, to_t, to_half_t, loadsByte, loadsWord, storesByte, storesWord, gathers, each_of_a_b, each_of_a, half_of_a, moves, Meaning, unlisted, exits, acts, branches, works, kind_for}
+use Rattle.instructions.specs.Meanings.{plain, of_word, of_half, same, less, Act, to_t, to_half_t, loads_byte, loads_word, stores_byte, stores_word, gathers, each_of_a_b, each_of_a, half_of_a, moves, Meaning, unlisted, exits, acts, branches, works, kind_for}
 
 -- ---- places in a word
 
@@ -105,8 +105,8 @@ add_branch k c = line_of k 0xC (G 4) 0 (at_b + at_c) (branches c)
 abbrev pub table : List Line
 table =
     line_of 0x09 0x4 0 (at_r + at_s + at_t) 0 exits ∷  -- exit
-    addressed 0x12 loadsByte ∷  -- load byte
-    addressed 0x13 storesByte ∷  -- store byte
+    addressed 0x12 loads_byte ∷  -- load byte
+    addressed 0x13 stores_byte ∷  -- store byte
     bit_fields 0x14 Rule.Compress ∷  -- bit compress
     bit_fields 0x15 Rule.Merge ∷  -- bit merge
     bit_fields 0x16 Rule.Mask ∷  -- bit mask
@@ -124,8 +124,8 @@ table =
     two_registers 0x7A (λ r. plain (exponent_word r)) ∷  -- exponent
     three_registers 0x7B packed_of ∷  -- pack
     two_registers 0x7C (λ r. plain (left16_of r)) ∷  -- left 16
-    addressed 0x7E loadsWord ∷  -- load word
-    addressed 0x7F storesWord ∷  -- store word
+    addressed 0x7E loads_word ∷  -- load word
+    addressed 0x7F stores_word ∷  -- store word
     vector_two 0x83 sum_of ∷  -- vector add low 48
     vector_two 0x87 difference_of ∷  -- vector subtract low 48
     vector_two 0x8A shift_of ∷  -- vector shift

@@ -5,7 +5,7 @@
 //     mark N   held WORD   items N   flags WORD
 //     register NUMBER VALUE
 //     word ADDRESS VALUE
-ghost use Rattle.std.specs.Prelude.{◌≡◌, ◌<◌, ◌≤◌, length, IfOk};
+ghost use Rattle.std.specs.Prelude.{◌≡◌, ◌<◌, ◌≤◌, length, IfOk, OnErr};
 ghost use Rattle.job.specs.Places.{Fits, FitsKept, FitsReading};
 
 use crate::faults::{DeckFault, LineFault};
@@ -359,7 +359,7 @@ fn keep(
     }
 }
 
-// A deck has to say how long the memory is, and where the job stands.
+// A deck has to say how long the memory is, and where the job stands. An error is one of writing what is wrong.
 fn whole(err: &impl Print, d: Deck, said: &[u8; SAID]) -> io::Result<Reading>
     requires { Fits d }
     ensures { IfOk result FitsReading }
@@ -375,7 +375,7 @@ fn whole(err: &impl Print, d: Deck, said: &[u8; SAID]) -> io::Result<Reading>
     Ok(Reading::Deck(d))
 }
 
-// The deck of a text, its memory and registers put where they are lent; or what is wrong has been said.
+// The deck of a text, its memory and registers put where they are lent; or what is wrong has been said. An error is one of writing that.
 pub fn read(
     err: &impl Print,
     text: &[u8],
@@ -383,7 +383,8 @@ pub fn read(
     registers: &mut [u64; 256],
 ) -> io::Result<Reading>
     requires { 65536 ≡ length memory.old }
-    ensures { IfOk result FitsReading }
+    ensures ok { IfOk result FitsReading }
+    ensures err { OnErr result (length memory.new ≡ length memory.old) }
 {
     let mut said = [0u8; SAID];
     let mut d = Deck::empty();

@@ -1,5 +1,5 @@
 // Run, step and list: the deck of standard input, and what becomes of it.
-ghost use Rattle.std.specs.Prelude.{◌≡◌, ◌≤◌, length, IfOk};
+ghost use Rattle.std.specs.Prelude.{◌≡◌, ◌≤◌, length, IfOk, OnErr};
 ghost use Rattle.job.specs.Places.{Fits, FitsReading};
 
 use crate::decks::{Deck, Reading};
@@ -17,7 +17,7 @@ use runs::records::Record;
 use std::io;
 use std::io::Read;
 
-// What standard input holds, where it fits.
+// What standard input holds, where it fits. An error is one of reading it, or of writing what is wrong.
 fn read_into(
     stdin: &mut impl Read,
     err: &impl Print,
@@ -26,7 +26,8 @@ fn read_into(
     registers: &mut [u64; 256],
 ) -> io::Result<Reading>
     requires { 65536 ≡ length memory.old }
-    ensures { IfOk result FitsReading }
+    ensures ok { IfOk result FitsReading }
+    ensures err { OnErr result (length memory.new ≡ length memory.old) }
 {
     let n = read_full(stdin, space)?;
     if n == space.len() {
@@ -43,7 +44,7 @@ fn room() -> [u8; 262144]
     [0; 262144]
 }
 
-// The deck of standard input.
+// The deck of standard input. An error is one of reading it, or of writing what is wrong.
 fn input(
     stdin: &mut impl Read,
     err: &impl Print,
@@ -51,7 +52,8 @@ fn input(
     registers: &mut [u64; 256],
 ) -> io::Result<Reading>
     requires { 65536 ≡ length memory.old }
-    ensures { IfOk result FitsReading }
+    ensures ok { IfOk result FitsReading }
+    ensures err { OnErr result (length memory.new ≡ length memory.old) }
 {
     let mut space = room();
     read_into(stdin, err, &mut space, memory, registers)

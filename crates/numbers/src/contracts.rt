@@ -13,6 +13,9 @@ const INDEFINITE: u32 = 0x7000_0000;
 
 const MACHINE_ZERO: u32 = 0x8000_0000;
 
+// From this exponent on the result is indefinite.
+const TOO_LARGE: i64 = 0x58;
+
 // What is added first.
 fn addend(rounded: bool) -> i64
     ensures { result ≡ addend rounded }
@@ -61,7 +64,7 @@ fn contracted(word: u64, rounded: bool) -> HalfWordResult
             flags: FLAG_46,
         };
     }
-    if 0x58 <= x {
+    if TOO_LARGE <= x {
         return HalfWordResult {
             half: INDEFINITE,
             flags: FLAG_42 | FLAG_46,

@@ -9,6 +9,9 @@ use crate::number::Number;
 use crate::signs::magnitude;
 use crate::widths::{join, split};
 
+// The leftmost digit of machine zero.
+const MACHINE_ZERO: u64 = 8;
+
 // Of exponent -k: the coefficient over 2^k, with exponent 0.
 fn brought_to_zero(how: Rounding, n: Number, e: u64, h: u64) -> u64
     requires { (e < 16) × (h < 48) × (n.exponent ≡ negsuc (mag n.exponent)) × (mag n.exponent < 2 ^ 62) × (mag n.coefficient < 2 ^ 61) }
@@ -28,7 +31,7 @@ fn whole(how: Rounding, word: u64, e: u64, h: u64) -> WordResult
     ensures { result ≡ whole_at e h how word }
 {
     let digit = word >> (e + h - 2);
-    if digit == 8 {
+    if digit == MACHINE_ZERO {
         return WordResult { word: 0, flags: 0 };
     }
     let n = split(word, e, h);

@@ -16,7 +16,7 @@ use Rattle.instructions.specs.declared.items.BitPlan.{BitPlan}
 use Rattle.instructions.specs.declared.items.MovePlan.{MovePlan}
 use Rattle.fields.specs.Memory.{AtByte}
 use Rattle.instructions.specs.declared.operands.Operands.{Operands}
-use Rattle.instructions.specs.Meanings.{to_t, to_half_t, loadsByte, loadsWord, storesByte, storesWord, Meaning, unlisted, exits, acts, branches, works}
+use Rattle.instructions.specs.Meanings.{to_t, to_half_t, loads_byte, loads_word, stores_byte, stores_word, Meaning, unlisted, exits, acts, branches, works}
 use Rattle.instructions.specs.Operands.{meaning_in, address_in}
 use Rattle.instructions.specs.declared.effects.Effect.{Effect}
 use Rattle.instructions.specs.declared.effects.Effect.TheVariants.{Nothing, Register, HalfRegister, Byte, Word}
@@ -99,10 +99,10 @@ AddressThereBy unlisted o m = Unit {0}
 AddressThereBy exits o m = Unit {0}
 AddressThereBy (acts (to_t f)) o m = Unit {0}
 AddressThereBy (acts (to_half_t f)) o m = Unit {0}
-AddressThereBy (acts loadsByte) o m = AtByte m (address_in unit.Byte o).0 8
-AddressThereBy (acts loadsWord) o m = AtByte m (address_in unit.Word o).0 64
-AddressThereBy (acts storesByte) o m = AtByte m (address_in unit.Byte o).0 8
-AddressThereBy (acts storesWord) o m = AtByte m (address_in unit.Word o).0 64
+AddressThereBy (acts loads_byte) o m = AtByte m (address_in unit.Byte o).0 8
+AddressThereBy (acts loads_word) o m = AtByte m (address_in unit.Word o).0 64
+AddressThereBy (acts stores_byte) o m = AtByte m (address_in unit.Byte o).0 8
+AddressThereBy (acts stores_word) o m = AtByte m (address_in unit.Word o).0 64
 AddressThereBy (branches c) o m = Unit {0}
 AddressThereBy (works k) o m = Unit {0}
 

@@ -64,4 +64,4 @@ one_step_of Kind.Move w o n = false
 
 -- A long word is not wholly in memory: refusal 4.
 abbrev pub cut_off : ℕ → Bool → ℕ → Bool
-cut_off p isLong n = isLong && unfetched_at p true n
+cut_off p is_long n = is_long && unfetched_at p true n

@@ -36,9 +36,9 @@ pub returns-then-x-ge28672 : goal.returns-then-x-ge28672
 unfolding contract_of contracted_at
 returns-then-x-ge28672 c = rw (test_of (λ (z : ℤ). le_z (pos 0x7000) z) c.of_word-n.result.exponent _ true (seen c.args.word c.of_word-n.result c.of_word-n.ensures) c.if-x-ge28672.true)
 
-pub returns-then-x-ge88 : goal.returns-then-x-ge88
+pub returns-then-x-ge-TOO_LARGE : goal.returns-then-x-ge-TOO_LARGE
 unfolding contract_of contracted_at
-returns-then-x-ge88 c = rw (test_of (λ (z : ℤ). le_z (pos 0x7000) z) c.of_word-n.result.exponent _ false (seen c.args.word c.of_word-n.result c.of_word-n.ensures) c.if-x-ge28672.false, test_of (λ (z : ℤ). le_z (pos 0x58) z) c.of_word-n.result.exponent _ true (seen c.args.word c.of_word-n.result c.of_word-n.ensures) c.if-x-ge88.true)
+returns-then-x-ge-TOO_LARGE c = rw (test_of (λ (z : ℤ). le_z (pos 0x7000) z) c.of_word-n.result.exponent _ false (seen c.args.word c.of_word-n.result c.of_word-n.ensures) c.if-x-ge28672.false, test_of (λ (z : ℤ). le_z (pos 0x58) z) c.of_word-n.result.exponent _ true (seen c.args.word c.of_word-n.result c.of_word-n.ensures) c.if-x-ge-TOO_LARGE.true)
 
 pub sum-s-requires : goal.sum-s-requires
 sum-s-requires c = (
@@ -60,7 +60,7 @@ returns-then-x-geminus136 c = let s = total c.args.word c.of_word-n.result c.of_
     let g = c.places.ensures.0 ∙ ap places s in
     rw (
       test_of (λ (z : ℤ). le_z (pos 0x7000) z) c.of_word-n.result.exponent _ false (seen c.args.word c.of_word-n.result c.of_word-n.ensures) c.if-x-ge28672.false,
-      test_of (λ (z : ℤ). le_z (pos 0x58) z) c.of_word-n.result.exponent _ false (seen c.args.word c.of_word-n.result c.of_word-n.ensures) c.if-x-ge88.false,
+      test_of (λ (z : ℤ). le_z (pos 0x58) z) c.of_word-n.result.exponent _ false (seen c.args.word c.of_word-n.result c.of_word-n.ensures) c.if-x-ge-TOO_LARGE.false,
       test_of (λ (z : ℤ). le_z (negsuc 0x87) z) c.of_word-n.result.exponent _ true (seen c.args.word c.of_word-n.result c.of_word-n.ensures) c.if-x-geminus136.true,
     )
     (c.narrow.ensures ∙ cc (seen c.args.word c.of_word-n.result c.of_word-n.ensures))
@@ -69,6 +69,6 @@ pub returns : goal.returns
 unfolding contract_of contracted_at
 returns c = rw (
   test_of (λ (z : ℤ). le_z (pos 0x7000) z) c.of_word-n.result.exponent _ false (seen c.args.word c.of_word-n.result c.of_word-n.ensures) c.if-x-ge28672.false,
-  test_of (λ (z : ℤ). le_z (pos 0x58) z) c.of_word-n.result.exponent _ false (seen c.args.word c.of_word-n.result c.of_word-n.ensures) c.if-x-ge88.false,
+  test_of (λ (z : ℤ). le_z (pos 0x58) z) c.of_word-n.result.exponent _ false (seen c.args.word c.of_word-n.result c.of_word-n.ensures) c.if-x-ge-TOO_LARGE.false,
   test_of (λ (z : ℤ). le_z (negsuc 0x87) z) c.of_word-n.result.exponent _ false (seen c.args.word c.of_word-n.result c.of_word-n.ensures) c.if-x-geminus136.false,
 )
