@@ -10,7 +10,7 @@ use crate::signs::magnitude;
 use crate::widths::{join, split};
 
 // The leftmost digit of machine zero.
-const MACHINE_ZERO: u64 = 8;
+const MACHINE_ZERO_DIGIT: u64 = 8;
 
 // Of exponent -k: the coefficient over 2^k, with exponent 0.
 fn brought_to_zero(how: Rounding, n: Number, e: u64, h: u64) -> u64
@@ -31,7 +31,7 @@ fn whole(how: Rounding, word: u64, e: u64, h: u64) -> WordResult
     ensures { result ≡ whole_at e h how word }
 {
     let digit = word >> (e + h - 2);
-    if digit == MACHINE_ZERO {
+    if digit == MACHINE_ZERO_DIGIT {
         return WordResult { word: 0, flags: 0 };
     }
     let n = split(word, e, h);

@@ -1,4 +1,4 @@
--- `instructions::bitruns::by_periods` meets its contract. The invariant: the next item begins a period, and all before it are worked. A turn works t periods (Periodic.chunk-turn).
+-- `instructions::bitruns::by_periods` meets its contract. The invariant: the next item begins a period, and all before it are worked. A turn works t periods (Periodic.chunk_turn).
 use mathlib.Core.Path.{◌≡◌}
 use Prim.Native.Nat.{ℕ, ◌+◌, ◌-◌, ◌%◌, ◌≤◌}
 use lib.ListN.{length}

@@ -1,4 +1,4 @@
--- `instructions::loops::half_items` meets its contract. The invariant: k items are worked. One more is a turn (Turning.lanes-turn).
+-- `instructions::loops::half_items` meets its contract. The invariant: k items are worked. One more is a turn (Turning.lanes_turn).
 use mathlib.Core.Bool.{false}
 use mathlib.Core.Path.{◌≡◌}
 use Prim.Native.Nat.{◌-◌, ◌≤◌}

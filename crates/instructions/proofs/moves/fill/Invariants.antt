@@ -1,4 +1,4 @@
--- `instructions::moves::fill` meets its contract. The invariant: j bytes are worked. One more is a turn (Turning.byte-turn).
+-- `instructions::moves::fill` meets its contract. The invariant: j bytes are worked. One more is a turn (Turning.byte_turn).
 use mathlib.Core.Path.{◌≡◌}
 use Prim.Native.Nat.{ℕ, ◌-◌, ◌*◌, ◌≤◌}
 use lib.ListN.{length}

@@ -1,4 +1,4 @@
--- `instructions::moves::move_bytes` meets its contract. Bytes copied, then bytes filled, are a move (Moving.move-joined).
+-- `instructions::moves::move_bytes` meets its contract. Bytes copied, then bytes filled, are a move (Moving.move_joined).
 use mathlib.Core.Path.{◌≡◌}
 use Prim.Native.Nat.{min, ◌-◌}
 use native.Mathlib.Omega.{arith}

@@ -20,9 +20,9 @@ use Rattle.numbers.proofs.whole.whole.Goals as goal
 seen : (e h word : ℕ) (n : Number) → e < 16 → n ≡ split_at e h word → to_z w64 (of_z w64 n.exponent) ≡ exponent_at e h word
 seen e h word n small is = rw is (back (exponent_at e h word) (omega (arith, exponent_small e h word small)))
 
-pub returns-then-digit-eq-MACHINE_ZERO : goal.returns-then-digit-eq-MACHINE_ZERO
+pub returns-then-digit-eq-MACHINE_ZERO_DIGIT : goal.returns-then-digit-eq-MACHINE_ZERO_DIGIT
 unfolding whole_at
-returns-then-digit-eq-MACHINE_ZERO c = rw (eq-eqb _ _ c.if-digit-eq-MACHINE_ZERO.true)
+returns-then-digit-eq-MACHINE_ZERO_DIGIT c = rw (eq-eqb _ _ c.if-digit-eq-MACHINE_ZERO_DIGIT.true)
 
 pub brought_to_zero-requires : goal.brought_to_zero-requires
 brought_to_zero-requires c = let x = negative (exponent_at c.args.e c.args.h c.args.word) (test_of (λ (z : ℤ). lt_z z (pos 0)) c.split-n.result.exponent _ true (seen c.args.e c.args.h c.args.word c.split-n.result c.requires.1 c.split-n.ensures) c.if-x-lt0.true) in
@@ -30,14 +30,14 @@ brought_to_zero-requires c = let x = negative (exponent_at c.args.e c.args.h c.a
 
 pub returns-then-x-lt0 : goal.returns-then-x-lt0
 unfolding whole_at
-returns-then-x-lt0 c = rw (ne_eqb _ _ c.if-digit-eq-MACHINE_ZERO.false, test_of (λ (z : ℤ). lt_z z (pos 0)) c.split-n.result.exponent _ true (seen c.args.e c.args.h c.args.word c.split-n.result c.requires.1 c.split-n.ensures) c.if-x-lt0.true)
+returns-then-x-lt0 c = rw (ne_eqb _ _ c.if-digit-eq-MACHINE_ZERO_DIGIT.false, test_of (λ (z : ℤ). lt_z z (pos 0)) c.split-n.result.exponent _ true (seen c.args.e c.args.h c.args.word c.split-n.result c.requires.1 c.split-n.ensures) c.if-x-lt0.true)
     (ap (λ (n : ℕ). word_result n 0)
     (c.brought_to_zero.ensures ∙ ap (brought_to_zero c.args.e c.args.h c.args.how) c.split-n.ensures))
 
 pub returns-then-digit-eq7 : goal.returns-then-digit-eq7
 unfolding whole_at
-returns-then-digit-eq7 c = rw (ne_eqb _ _ c.if-digit-eq-MACHINE_ZERO.false, test_of (λ (z : ℤ). lt_z z (pos 0)) c.split-n.result.exponent _ false (seen c.args.e c.args.h c.args.word c.split-n.result c.requires.1 c.split-n.ensures) c.if-x-lt0.false, eq-eqb _ _ c.if-digit-eq7.true)
+returns-then-digit-eq7 c = rw (ne_eqb _ _ c.if-digit-eq-MACHINE_ZERO_DIGIT.false, test_of (λ (z : ℤ). lt_z z (pos 0)) c.split-n.result.exponent _ false (seen c.args.e c.args.h c.args.word c.split-n.result c.requires.1 c.split-n.ensures) c.if-x-lt0.false, eq-eqb _ _ c.if-digit-eq7.true)
 
 pub returns : goal.returns
 unfolding whole_at
-returns c = rw (ne_eqb _ _ c.if-digit-eq-MACHINE_ZERO.false, test_of (λ (z : ℤ). lt_z z (pos 0)) c.split-n.result.exponent _ false (seen c.args.e c.args.h c.args.word c.split-n.result c.requires.1 c.split-n.ensures) c.if-x-lt0.false, ne_eqb _ _ c.if-digit-eq7.false)
+returns c = rw (ne_eqb _ _ c.if-digit-eq-MACHINE_ZERO_DIGIT.false, test_of (λ (z : ℤ). lt_z z (pos 0)) c.split-n.result.exponent _ false (seen c.args.e c.args.h c.args.word c.split-n.result c.requires.1 c.split-n.ensures) c.if-x-lt0.false, ne_eqb _ _ c.if-digit-eq7.false)
