@@ -1,7 +1,6 @@
--- The data flags, and a result with the flags that it raises: section 4 of docs/MACHINE.md.
+-- The data flags, and an item with the flags that it raises: section 4 of docs/MACHINE.md.
 use Rattle.std.specs.Prelude.{ℕ, ◌+◌, ◌-◌, ◌^◌}
-use Rattle.numbers.specs.declared.flags.WordResult.{WordResult}
-use Rattle.numbers.specs.declared.flags.HalfWordResult.{HalfWordResult}
+use Rattle.numbers.specs.declared.flags.Made.{Made}
 
 -- §4.4: flag n as a number of 64 bits: bit n of them, from the left.
 abbrev pub flag : ℕ → ℕ
@@ -11,10 +10,6 @@ flag n = 2 ^ (63 - n)
 abbrev pub all_flags : ℕ
 all_flags = flag 42 + flag 43 + flag 46
 
--- A word with its flags.
-abbrev pub word_result : ℕ → ℕ → WordResult
-word_result w f = record { word = w; flags = f }
-
--- A half word with its flags.
-abbrev pub half_word_result : ℕ → ℕ → HalfWordResult
-half_word_result w f = record { half = w; flags = f }
+-- An item, a word or a half word, with its flags.
+abbrev pub with_flags : ℕ → ℕ → Made ℕ
+with_flags w f = record { item = w; flags = f }

@@ -4,7 +4,7 @@ ghost use Rattle.std.specs.Int.Signed.{mag};
 ghost use Rattle.numbers.specs.Contract.{addend, places, narrowed, contract_of};
 
 use crate::division::{Rounding, divide};
-use crate::flags::{FLAG_42, FLAG_43, FLAG_46, HalfWordResult};
+use crate::flags::{FLAG_42, FLAG_43, FLAG_46, Made};
 use crate::number::Number;
 use crate::signs::sum;
 
@@ -31,65 +31,51 @@ fn places(s: i64) -> u64
 }
 
 // Exponent x + g, coefficient s / 2^g.
-fn narrow(x: i64, s: i64, g: u64) -> HalfWordResult
+fn narrow(x: i64, s: i64, g: u64) -> Made<u32>
     requires { (g ≤ 25) × (mag x < 2 ^ 61) × (mag s < 2 ^ 61) }
     ensures { result ≡ narrowed x s g }
 {
     let y = sum(x, g as i64);
     if 0x70 <= y {
-        return HalfWordResult {
-            half: INDEFINITE,
+        Made {
+            item: INDEFINITE,
             flags: FLAG_42 | FLAG_46,
+        }
+    } else {
+        let n = Number {
+            exponent: y,
+            coefficient: divide(Rounding::Down, s, g),
         };
-    }
-    let n = Number {
-        exponent: y,
-        coefficient: divide(Rounding::Down, s, g),
-    };
-    HalfWordResult {
-        half: n.half_word(),
-        flags: 0,
+        Made {
+            item: n.half_word(),
+            flags: 0,
+        }
     }
 }
 
 // By the exponent's range, which rounding does not move.
-fn contracted(word: u64, rounded: bool) -> HalfWordResult
+pub fn contract(word: u64, rounded: bool) -> Made<u32>
     ensures { result ≡ contract_of rounded word }
 {
-    let n = Number::of_word(word);
+    let n = Number::from(word);
     let x = n.exponent;
     if 0x7000 <= x {
-        return HalfWordResult {
-            half: INDEFINITE,
+        Made {
+            item: INDEFINITE,
             flags: FLAG_46,
-        };
-    }
-    if TOO_LARGE <= x {
-        return HalfWordResult {
-            half: INDEFINITE,
+        }
+    } else if TOO_LARGE <= x {
+        Made {
+            item: INDEFINITE,
             flags: FLAG_42 | FLAG_46,
-        };
-    }
-    if -0x88 <= x {
+        }
+    } else if -0x88 <= x {
         let s = sum(n.coefficient, addend(rounded));
-        return narrow(x, s, places(s));
+        narrow(x, s, places(s))
+    } else {
+        Made {
+            item: MACHINE_ZERO,
+            flags: FLAG_43,
+        }
     }
-    HalfWordResult {
-        half: MACHINE_ZERO,
-        flags: FLAG_43,
-    }
-}
-
-// 76.
-pub fn contract(word: u64) -> HalfWordResult
-    ensures { result ≡ contract_of false word }
-{
-    contracted(word, false)
-}
-
-// 77.
-pub fn rounded_contract(word: u64) -> HalfWordResult
-    ensures { result ≡ contract_of true word }
-{
-    contracted(word, true)
 }

@@ -1,4 +1,4 @@
-// A signed number divided by a power of two of any size, rounded toward zero, down and up.
+// A signed number divided by a power of two of any size, rounded toward zero, down and up: a division for each, a form that is not to change (decision 78).
 ghost use Rattle.std.specs.Prelude.{◌≡◌, ℕ, ◌<◌, ◌/◌, ◌^◌, pos};
 ghost use Rattle.std.specs.Int.Signed.{mag};
 ghost use Rattle.numbers.specs.Quotient.{toward_zero, down, up, quotient};
@@ -29,18 +29,6 @@ fn share(z: i64, k: u64) -> i64
     z / (d as i64)
 }
 
-// z / 2^k toward zero.
-fn toward_zero(z: i64, k: u64) -> i64
-    requires { mag z < 2 ^ 61 }
-    ensures { result ≡ toward_zero z (2 ^ k) }
-{
-    if z < 0 {
-        negate(share(negate(z), k))
-    } else {
-        share(z, k)
-    }
-}
-
 // z / 2^k rounded down.
 fn rounded_down(z: i64, k: u64) -> i64
     requires { mag z < 2 ^ 62 }
@@ -59,6 +47,18 @@ fn rounded_up(z: i64, k: u64) -> i64
     ensures { result ≡ up z (2 ^ k) }
 {
     negate(rounded_down(negate(z), k))
+}
+
+// z / 2^k toward zero.
+fn toward_zero(z: i64, k: u64) -> i64
+    requires { mag z < 2 ^ 61 }
+    ensures { result ≡ toward_zero z (2 ^ k) }
+{
+    if z < 0 {
+        rounded_up(z, k)
+    } else {
+        rounded_down(z, k)
+    }
 }
 
 // z / 2^k, rounded as asked.

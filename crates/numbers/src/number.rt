@@ -2,7 +2,7 @@
 ghost use Rattle.std.specs.Prelude.{◌≡◌};
 ghost use Rattle.numbers.specs.Number.{split_at, joined_at};
 
-use crate::widths::{join, split};
+use crate::widths::{HALF_WORD, WORD};
 
 // Two's complement both. Of a part that is out of range the rightmost bits are put together.
 #[derive(Clone, Copy)]
@@ -11,32 +11,36 @@ pub struct Number {
     pub coefficient: i64,
 }
 
+// The parts of a 64-bit number.
+impl From<u64> for Number {
+    ghost from_gives = { λ word n. n ≡ split_at 15 47 word };
+
+    fn from(word: u64) -> Number {
+        WORD.split(word)
+    }
+}
+
+// The parts of a 32-bit number.
+impl From<u32> for Number {
+    ghost from_gives = { λ half n. n ≡ split_at 7 23 half };
+
+    fn from(half: u32) -> Number {
+        HALF_WORD.split(half as u64)
+    }
+}
+
 impl Number {
-    // The parts of a 64-bit number.
-    pub fn of_word(word: u64) -> Number
-        ensures { result ≡ split_at 15 47 word }
-    {
-        split(word, 15, 47)
-    }
-
-    // The parts of a 32-bit number.
-    pub fn of_half_word(half: u32) -> Number
-        ensures { result ≡ split_at 7 23 half }
-    {
-        split(half as u64, 7, 23)
-    }
-
-    // The 64-bit number of these parts.
+    // The 64-bit number of these parts. No `From`, which would say that no part is cut.
     pub fn word(self) -> u64
         ensures { result ≡ joined_at 15 47 self }
     {
-        join(self, 15, 47)
+        WORD.join(self)
     }
 
     // The 32-bit number of these parts.
     pub fn half_word(self) -> u32
         ensures { result ≡ joined_at 7 23 self }
     {
-        join(self, 7, 23) as u32
+        HALF_WORD.join(self) as u32
     }
 }

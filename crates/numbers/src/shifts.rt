@@ -1,8 +1,9 @@
-// Rotation and right shift with sign of one word, by shifts and masks: code 8A. A word is complemented by a subtraction from all ones (decision 71).
+// Rotation and right shift with sign of one word: code 8A. By shifts and masks, a form that is not to change (decision 78). A word is complemented by a
+// subtraction from all ones (decision 71).
 ghost use Rattle.std.specs.Prelude.{◌≡◌, ◌<◌};
 ghost use Rattle.numbers.specs.Shift.{rotated, moved_right, shift_of};
 
-use crate::signs::{low, power};
+use crate::signs::low;
 
 // Left end-around.
 fn rotate(word: u64, k: u64) -> u64

@@ -1,4 +1,5 @@
-// One small function for each signed machine operation, with a contract in whole numbers. All above only calls them.
+// One small function for each signed machine operation, with a contract in whole numbers. All above only calls them. Each asks what its operation needs of a
+// number: a type of small numbers would be made and asked again at each, and would be no plainer.
 ghost use Rattle.std.specs.Prelude.{◌≡◌, ◌+◌, ◌<◌, ◌%◌, ◌^◌, pos, neg_ℤ, ◌+ℤ◌, ◌-ℤ◌};
 ghost use Rattle.std.specs.Int.Signed.{mag};
 ghost use Rattle.numbers.specs.Twos.{signed_at, bits_at};
@@ -11,7 +12,7 @@ pub fn power(k: u64) -> u64
     1u64 << k
 }
 
-// The low n bits of a word.
+// The low n bits of a word, for which the library has no call.
 pub fn low(word: u64, n: u64) -> u64
     requires { n < 64 }
     ensures { result ≡ word % 2 ^ n }

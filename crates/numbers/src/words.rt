@@ -53,7 +53,7 @@ pub fn subtract(r: u64, s: u64) -> u64
 pub fn exponent(r: u64) -> u64
     ensures { result ≡ exponent_word r }
 {
-    let n = Number::of_word(r);
+    let n = Number::from(r);
     bits(n.exponent, 47)
 }
 

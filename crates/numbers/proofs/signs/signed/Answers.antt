@@ -8,9 +8,6 @@ use Rattle.numbers.proofs.Complements.{signed_raised}
 use Rattle.numbers.proofs.Integers.{top, back}
 use Rattle.numbers.proofs.signs.signed.Goals as goal
 
-pub overflow_add-bits : goal.overflow_add-bits
-overflow_add-bits c = let t = top c.args.h c.requires.0 in omega arith
-
 pub difference-requires : goal.difference-requires
 difference-requires c = let t = top c.args.h c.requires.0 in
     let l = mod-lt (c.args.bits + c.power-top.result) (pow_pos (c.args.h + 1)) in

@@ -10,15 +10,12 @@ use Rattle.numbers.specs.Quotient.{quotient}
 use Rattle.numbers.specs.Whole.{brought_to_zero}
 use Rattle.numbers.proofs.whole.brought_to_zero.Goals as goal
 
-pub overflow_add-k : goal.overflow_add-k
-overflow_add-k c = let m : c.magnitude-k.result ≡ mag c.args.n.exponent = c.magnitude-k.ensures ∙ ap mag (back c.args.n.exponent (omega arith)) in omega arith
-
 pub returns : goal.returns
 unfolding brought_to_zero
 returns c = let n = c.args.n in
     let k : c.magnitude-k.result + 1 ≡ nat_abs n.exponent =
-    ap (λ (j : ℕ). j + 1) (c.magnitude-k.ensures ∙ ap mag (back n.exponent (omega arith))) ∙ sym (nat_abs_lem n.exponent c.requires.2) in
-    c.join.ensures
-    ∙ ap (λ (z : ℤ). joined_at c.args.e c.args.h (record { exponent = pos 0; coefficient = z }))
+    ap (λ (j : ℕ). j + 1) (c.magnitude-k.ensures ∙ ap mag (back n.exponent (omega arith))) ∙ sym (nat_abs_lem n.exponent c.requires.0) in
+    c.word.ensures
+    ∙ ap (λ (z : ℤ). joined_at 15 47 (record { exponent = pos 0; coefficient = z }))
     (back _ c.divide.type_inv ∙ c.divide.ensures
     ∙ ap₂ (λ (z : ℤ) (j : ℕ). quotient c.args.how z (2 ^ j)) (back n.coefficient (omega arith)) k)

@@ -1,4 +1,4 @@
--- `numbers::contracts::contracted` meets its contract.
+-- `numbers::contracts::contract` meets its contract.
 use mathlib.Core.Bool.{Bool, true, false}
 use mathlib.Core.Path.{◌≡◌, ◌∙◌, ap, ap₂}
 use Prim.Native.Nat.{ℕ, ◌^◌, ◌<◌, ◌≤◌}
@@ -14,7 +14,7 @@ use Rattle.numbers.proofs.Linear.{mag_add}
 use Rattle.numbers.specs.Contract.{addend, places, contracted_at, contract_of}
 use Rattle.numbers.specs.declared.number.Number.{Number}
 use Rattle.numbers.specs.Number.{coefficient_at, exponent_at, split_at}
-use Rattle.numbers.proofs.contracts.contracted.Goals as goal
+use Rattle.numbers.proofs.contracts.contract.Goals as goal
 
 -- what is added first is small
 addend_small : (rounded : Bool) → mag (addend rounded) ≤ 2 ^ 23
@@ -34,15 +34,15 @@ total word n e rounded x s xs ex ss es = back s ss ∙ es ∙ ap₂ ◌+ℤ◌ (
 
 pub returns-then-x-ge28672 : goal.returns-then-x-ge28672
 unfolding contract_of contracted_at
-returns-then-x-ge28672 c = rw (test_of (λ (z : ℤ). le_z (pos 0x7000) z) c.of_word-n.result.exponent _ true (seen c.args.word c.of_word-n.result c.of_word-n.ensures) c.if-x-ge28672.true)
+returns-then-x-ge28672 c = rw (test_of (λ (z : ℤ). le_z (pos 0x7000) z) c.from-n.result.exponent _ true (seen c.args.word c.from-n.result c.from-n.ensures) c.if-x-ge28672.true)
 
 pub returns-then-x-ge-TOO_LARGE : goal.returns-then-x-ge-TOO_LARGE
 unfolding contract_of contracted_at
-returns-then-x-ge-TOO_LARGE c = rw (test_of (λ (z : ℤ). le_z (pos 0x7000) z) c.of_word-n.result.exponent _ false (seen c.args.word c.of_word-n.result c.of_word-n.ensures) c.if-x-ge28672.false, test_of (λ (z : ℤ). le_z (pos 0x58) z) c.of_word-n.result.exponent _ true (seen c.args.word c.of_word-n.result c.of_word-n.ensures) c.if-x-ge-TOO_LARGE.true)
+returns-then-x-ge-TOO_LARGE c = rw (test_of (λ (z : ℤ). le_z (pos 0x7000) z) c.from-n.result.exponent _ false (seen c.args.word c.from-n.result c.from-n.ensures) c.if-x-ge28672.false, test_of (λ (z : ℤ). le_z (pos 0x58) z) c.from-n.result.exponent _ true (seen c.args.word c.from-n.result c.from-n.ensures) c.if-x-ge-TOO_LARGE.true)
 
 pub sum-s-requires : goal.sum-s-requires
 sum-s-requires c = (
-  rw (part c.args.word c.of_word-n.result c.of_word-n.ensures) (omega (arith, coefficient_mag 47 c.args.word)),
+  rw (part c.args.word c.from-n.result c.from-n.ensures) (omega (arith, coefficient_mag 47 c.args.word)),
   rw (back _ c.addend.type_inv ∙ c.addend.ensures) (omega (arith, addend_small c.args.rounded)),
 )
 
@@ -50,25 +50,25 @@ pub narrow-requires : goal.narrow-requires
 narrow-requires c = let w = c.args.word in
     let r = c.args.rounded in (
       c.places.ensures.2,
-      rw (seen c.args.word c.of_word-n.result c.of_word-n.ensures) (exponent_small 15 47 w (lit< tt)),
-      rw (total c.args.word c.of_word-n.result c.of_word-n.ensures c.args.rounded c.addend.result c.sum-s.result c.addend.type_inv c.addend.ensures c.sum-s.type_inv c.sum-s.ensures) (omega (arith, mag_add (coefficient_at 47 w) (addend r), coefficient_mag 47 w, addend_small r)),
+      rw (seen c.args.word c.from-n.result c.from-n.ensures) (exponent_small 15 47 w (lit< tt)),
+      rw (total c.args.word c.from-n.result c.from-n.ensures c.args.rounded c.addend.result c.sum-s.result c.addend.type_inv c.addend.ensures c.sum-s.type_inv c.sum-s.ensures) (omega (arith, mag_add (coefficient_at 47 w) (addend r), coefficient_mag 47 w, addend_small r)),
     )
 
 pub returns-then-x-geminus136 : goal.returns-then-x-geminus136
 unfolding contract_of contracted_at
-returns-then-x-geminus136 c = let s = total c.args.word c.of_word-n.result c.of_word-n.ensures c.args.rounded c.addend.result c.sum-s.result c.addend.type_inv c.addend.ensures c.sum-s.type_inv c.sum-s.ensures in
+returns-then-x-geminus136 c = let s = total c.args.word c.from-n.result c.from-n.ensures c.args.rounded c.addend.result c.sum-s.result c.addend.type_inv c.addend.ensures c.sum-s.type_inv c.sum-s.ensures in
     let g = c.places.ensures.0 ∙ ap places s in
     rw (
-      test_of (λ (z : ℤ). le_z (pos 0x7000) z) c.of_word-n.result.exponent _ false (seen c.args.word c.of_word-n.result c.of_word-n.ensures) c.if-x-ge28672.false,
-      test_of (λ (z : ℤ). le_z (pos 0x58) z) c.of_word-n.result.exponent _ false (seen c.args.word c.of_word-n.result c.of_word-n.ensures) c.if-x-ge-TOO_LARGE.false,
-      test_of (λ (z : ℤ). le_z (negsuc 0x87) z) c.of_word-n.result.exponent _ true (seen c.args.word c.of_word-n.result c.of_word-n.ensures) c.if-x-geminus136.true,
+      test_of (λ (z : ℤ). le_z (pos 0x7000) z) c.from-n.result.exponent _ false (seen c.args.word c.from-n.result c.from-n.ensures) c.if-x-ge28672.false,
+      test_of (λ (z : ℤ). le_z (pos 0x58) z) c.from-n.result.exponent _ false (seen c.args.word c.from-n.result c.from-n.ensures) c.if-x-ge-TOO_LARGE.false,
+      test_of (λ (z : ℤ). le_z (negsuc 0x87) z) c.from-n.result.exponent _ true (seen c.args.word c.from-n.result c.from-n.ensures) c.if-x-geminus136.true,
     )
-    (c.narrow.ensures ∙ cc (seen c.args.word c.of_word-n.result c.of_word-n.ensures))
+    (c.narrow.ensures ∙ cc (seen c.args.word c.from-n.result c.from-n.ensures))
 
-pub returns : goal.returns
+pub returns-else-x-geminus136 : goal.returns-else-x-geminus136
 unfolding contract_of contracted_at
-returns c = rw (
-  test_of (λ (z : ℤ). le_z (pos 0x7000) z) c.of_word-n.result.exponent _ false (seen c.args.word c.of_word-n.result c.of_word-n.ensures) c.if-x-ge28672.false,
-  test_of (λ (z : ℤ). le_z (pos 0x58) z) c.of_word-n.result.exponent _ false (seen c.args.word c.of_word-n.result c.of_word-n.ensures) c.if-x-ge-TOO_LARGE.false,
-  test_of (λ (z : ℤ). le_z (negsuc 0x87) z) c.of_word-n.result.exponent _ false (seen c.args.word c.of_word-n.result c.of_word-n.ensures) c.if-x-geminus136.false,
+returns-else-x-geminus136 c = rw (
+  test_of (λ (z : ℤ). le_z (pos 0x7000) z) c.from-n.result.exponent _ false (seen c.args.word c.from-n.result c.from-n.ensures) c.if-x-ge28672.false,
+  test_of (λ (z : ℤ). le_z (pos 0x58) z) c.from-n.result.exponent _ false (seen c.args.word c.from-n.result c.from-n.ensures) c.if-x-ge-TOO_LARGE.false,
+  test_of (λ (z : ℤ). le_z (negsuc 0x87) z) c.from-n.result.exponent _ false (seen c.args.word c.from-n.result c.from-n.ensures) c.if-x-geminus136.false,
 )
