@@ -1,11 +1,14 @@
 -- What the code tests is what the definitions say. The code compares starts by their difference and ends in bytes, the definitions compare sums.
 use mathlib.Core.Path.{◌≡◌, refl, sym, ap, ◌∙◌}
-use mathlib.Core.Bool.{Bool, true, false, and-true}
+use mathlib.Core.Bool.{Bool, true, false, and-true, and-false}
 use Prim.Native.Nat.{ℕ, suc, ◌+◌, ◌-◌, ◌*◌, ◌/◌, ◌%◌, ◌≤◌, ◌<◌}
 use native.Mathlib.Omega.{arith}
 use lib.Dec.{eqb, ltb, leb}
-use borrow.Author.Tests.{eq-eqb, ne_eqb, lt-ltb, le-leb, lt-leb, leb-true, leb-false}
+use borrow.Author.Tests.{eq-eqb, ne_eqb, eqb-true, eqb-false, lt-ltb, le-leb, lt-leb, leb-true, leb-false}
 use Rattle.fields.specs.declared.extents.Unit as U
+use Rattle.fields.specs.declared.extents.Unit.TheVariants.{Bit, Byte, HalfWord, Word}
+use denote.Enum.Bare.{sameb}
+use Rattle.fields.specs.contracts.extents.Unit.{the_type}
 use Rattle.fields.specs.declared.extents.Field.{Field}
 use Rattle.fields.specs.declared.units.BitAddress.{BitAddress}
 use Rattle.fields.specs.declared.units.BitCount.{BitCount}
@@ -70,15 +73,30 @@ module _ (f g : Field) where
       rw (ne_eqb f.bits.0 0 h, ne_eqb g.bits.0 0 i, lt-ltb g.base.0 (f.base.0 + f.bits.0) (omega arith))
       (same_test (suc (f.base.0 - g.base.0)) g.bits.0 (suc f.base.0) (g.base.0 + g.bits.0) (omega arith) (omega arith) ∙ sym (and-true _))
 
-  module _ (w v : ℕ) (ew : w ≡ width_of f.unit) (ev : v ≡ width_of g.unit) where
-    pub other_unit : (w ≡ v → ⊥) → false ≡ in_place f g
-    unfolding in_place
-    other_unit h = rw (← ew, ← ev, ne_eqb w v h)
+-- a unit is the word, by the test that the code makes
+same_word : (u : U.Unit) → sameb the_type u Word ≡ eqb (width_of u) 64
+same_word Bit = refl
+same_word Byte = refl
+same_word HalfWord = refl
+same_word Word = refl
 
-    pub no_word : w ≡ v → (w ≡ 64 → ⊥) → false ≡ in_place f g
-    unfolding in_place
-    no_word e h = rw (← ew, ← ev, eq-eqb w v e, ne_eqb w 64 h)
+module _ (f g : Field) {s : Bool} where
+  pub first_no_word : s ≡ sameb the_type f.unit Word → s ≡ false → s ≡ in_place f g
+  unfolding in_place
+  first_no_word e n =
+      let w : eqb (width_of f.unit) 64 ≡ false = sym (same_word f.unit) ∙ sym e ∙ n in
+      n ∙ rw w (sym (and-false (eqb (width_of f.unit) (width_of g.unit))))
 
-    pub words_both : w ≡ v → w ≡ 64 → eqb f.base.0 g.base.0 ≡ in_place f g
-    unfolding in_place
-    words_both e h = rw (← ew, ← ev, eq-eqb w v e, eq-eqb w 64 h)
+  pub second_no_word : {t : Bool} → s ≡ sameb the_type f.unit Word → s ≡ true → t ≡ sameb the_type g.unit Word → t ≡ false → t ≡ in_place f g
+  unfolding in_place
+  second_no_word e y d n =
+      let w : width_of f.unit ≡ 64 = eqb-true _ _ (sym (same_word f.unit) ∙ sym e ∙ y) in
+      let v : width_of g.unit ≡ 64 → ⊥ = eqb-false _ _ (sym (same_word g.unit) ∙ sym d ∙ n) in
+      n ∙ rw (w, ne_eqb 64 (width_of g.unit) (omega arith)) refl
+
+  pub words_both : {t : Bool} → s ≡ sameb the_type f.unit Word → s ≡ true → t ≡ sameb the_type g.unit Word → t ≡ true → eqb f.base.0 g.base.0 ≡ in_place f g
+  unfolding in_place
+  words_both e y d n =
+      let w : width_of f.unit ≡ 64 = eqb-true _ _ (sym (same_word f.unit) ∙ sym e ∙ y) in
+      let v : width_of g.unit ≡ 64 = eqb-true _ _ (sym (same_word g.unit) ∙ sym d ∙ n) in
+      rw (w, v) refl

@@ -47,10 +47,7 @@ pub record Shape (T : Cycles) (items extent : ℕ) : Type 0 where
   pub same : furthest (past_of T) items ≡ extent
 
 module _ {T : Cycles} {items extent : ℕ} (shape : Shape T items extent) where
-  -- the code may ask for its reach, and is given the extent
-  pub asked : (k : ℕ) → k ≡ items → Allowed T k
-  asked k e = rw e shape.may
-
+  -- the code asks for its reach, and is given the extent
   pub given : (k v : ℕ) → k ≡ items → v ≡ furthest (past_of T) k → v ≡ extent
   given k v e g = g ∙ ap (furthest (past_of T)) e ∙ shape.same
 

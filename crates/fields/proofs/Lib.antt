@@ -3,7 +3,7 @@ pub mod Theorems  -- what a store leaves, for every width and place
 pub mod Slots  -- n bits of a number
 pub mod Places  -- a field, and a store to it
 pub mod Lists  -- bytes as one number
-pub mod Orders  -- bytes from the right
+pub mod Wholes  -- eight bytes as std makes a number of them
 pub mod Addresses  -- from an address to an index
 pub mod Turns  -- items in turn or at once
 pub mod FieldMeaning  -- what the checks of a field mean, bit by bit

@@ -13,7 +13,7 @@ use Rattle.fields.specs.Slot.{get, put}
 use Rattle.fields.specs.Field.{field, store}
 use Rattle.fields.specs.Bytes.{num, size, Bytes}
 use Rattle.fields.proofs.Slots.{put_unique, put_lt}
-use Rattle.fields.proofs.Places.{field_join, field_field, store_inside}
+use Rattle.fields.proofs.Places.{field_field, store_inside}
 
 pub num_lt : (l : List ℕ) → Bytes l → num l < 2 ^ size l
 num_lt [] h = omega arith
@@ -46,7 +46,7 @@ module _ (p q r : List ℕ) (hq : Bytes q) (hr : Bytes r) where
   shr : num (p ++ (q ++ r)) / 2 ^ size r ≡ num p * 2 ^ size q + num q
   shr = ap (λ (x : ℕ). x / 2 ^ size r) (between p q r) ∙ high _ (size r) (num_lt r hr)
 
-  get_between : get (size r) (size q) (num (p ++ (q ++ r))) ≡ num q
+  pub get_between : get (size r) (size q) (num (p ++ (q ++ r))) ≡ num q
   get_between = ap (λ (x : ℕ). x % 2 ^ size q) shr ∙ low _ (size q) (num_lt q hq)
 
   left_between : num (p ++ (q ++ r)) / 2 ^ (size r + size q) ≡ num p
@@ -55,7 +55,7 @@ module _ (p q r : List ℕ) (hq : Bytes q) (hr : Bytes r) where
   right_between : num (p ++ (q ++ r)) % 2 ^ size r ≡ num r
   right_between = ap (λ (x : ℕ). x % 2 ^ size r) (between p q r) ∙ low _ (size r) (num_lt r hr)
 
-put_between : (p q q' r : List ℕ) → Bytes q → Bytes q' → Bytes r → length q' ≡ length q → num (p ++ (q' ++ r)) ≡ put (size r) (size q) (num q') (num (p ++ (q ++ r)))
+pub put_between : (p q q' r : List ℕ) → Bytes q → Bytes q' → Bytes r → length q' ≡ length q → num (p ++ (q' ++ r)) ≡ put (size r) (size q) (num q') (num (p ++ (q ++ r)))
 put_between p q q' r hq hq' hr e =
     put_unique (size r) (size q) (num q') (num (p ++ (q ++ r))) (num (p ++ (q' ++ r)))
     (ap (λ (n : ℕ). num (p ++ (q' ++ r)) / 2 ^ (size r + 8 * n)) (sym e) ∙ left_between p q' r hq' hr ∙ sym (left_between p q r hq hr))
@@ -68,8 +68,14 @@ one : (b : ℕ) → b < 256 → Bytes (b ∷ [])
 one b h zero = h
 one b h (suc i) = omega arith
 
-rest : (l : List ℕ) (k : ℕ) → Bytes l → Bytes (drop k l)
-rest l k h i = rw get_or-drop (h (k + i))
+pub bytes_drop : (k : ℕ) (l : List ℕ) → Bytes l → Bytes (drop k l)
+bytes_drop k l h i = rw get_or-drop (h (k + i))
+
+pub bytes_take : (k : ℕ) (l : List ℕ) → Bytes l → Bytes (take k l)
+bytes_take zero l h i = omega arith
+bytes_take (suc k) [] h i = omega arith
+bytes_take (suc k) (b ∷ l) h zero = h 0
+bytes_take (suc k) (b ∷ l) h (suc i) = bytes_take k l (λ (j : ℕ). h (suc j)) i
 
 num_one : (b : ℕ) → num (b ∷ []) ≡ b
 num_one b = omega arith
@@ -79,25 +85,15 @@ pub byte_field : (l : List ℕ) (k : ℕ) → Bytes l → k < length l → field
 byte_field l k h lt =
     let e : size l - (8 * k + 8) ≡ size (drop (suc k) l) = rw length-drop (omega arith) in
     rw e (ap (λ (y : List ℕ). get (size (drop (suc k) l)) 8 (num y)) (split_at l k 0 lt)
-    ∙ get_between (take k l) (get_or l k 0 ∷ []) (drop (suc k) l) (one (get_or l k 0) (h k)) (rest l (suc k) h) ∙ num_one (get_or l k 0))
+    ∙ get_between (take k l) (get_or l k 0 ∷ []) (drop (suc k) l) (one (get_or l k 0) (h k)) (bytes_drop (suc k) l h) ∙ num_one (get_or l k 0))
 
 -- to set the k-th byte is to store the field
 pub byte_store : (l : List ℕ) (k b : ℕ) → Bytes l → b < 256 → k < length l → num (set l k b) ≡ store (size l) (8 * k) 8 b (num l)
 byte_store l k b h hb lt =
     let e : size l - (8 * k + 8) ≡ size (drop (suc k) l) = rw length-drop (omega arith) in
     rw e (ap num (set_split l k b lt)
-    ∙ put_between (take k l) (get_or l k 0 ∷ []) (b ∷ []) (drop (suc k) l) (one (get_or l k 0) (h k)) (one b hb) (rest l (suc k) h) refl
+    ∙ put_between (take k l) (get_or l k 0 ∷ []) (b ∷ []) (drop (suc k) l) (one (get_or l k 0) (h k)) (one b hb) (bytes_drop (suc k) l h) refl
     ∙ ap₂ (λ (v : ℕ) (y : List ℕ). put (size (drop (suc k) l)) 8 v (num y)) (num_one b) (sym (split_at l k 0 lt)))
-
--- ---- several bytes, one after another
-
--- i bytes from byte k on, and one more
-pub one_more : (l : List ℕ) (k i : ℕ) → Bytes l → k + i < length l → field (size l) (8 * k) (8 * i) (num l) * 256 + get_or l (k + i) 0 ≡ field (size l) (8 * k) (8 * (i + 1)) (num l)
-one_more l k i h lt =
-    let e : 8 * (i + 1) ≡ 8 * i + 8 = omega arith in
-    let e' : 8 * k + 8 * i ≡ 8 * (k + i) = omega arith in
-    rw e (sym (field_join (size l) (8 * k) (8 * i) 8 (num l) (omega arith)
-    ∙ ap (λ (y : ℕ). field (size l) (8 * k) (8 * i) (num l) * 256 + y) (ap (λ (a : ℕ). field (size l) a 8 (num l)) e' ∙ byte_field l (k + i) h lt)))
 
 -- ---- a bit within its byte
 

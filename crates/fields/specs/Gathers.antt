@@ -2,6 +2,8 @@
 -- docs/MACHINE.md.
 use Rattle.std.specs.Prelude.{cond, ◌||◌, ℕ, zero, suc, ◌+◌, ◌-◌, ◌*◌, ◌/◌, ◌%◌, max, eqb, ltb}
 use Rattle.fields.specs.declared.gathers.Runs.{Runs}
+use Rattle.fields.specs.declared.gathers.Rule.{Rule}
+use Rattle.fields.specs.declared.gathers.Rule.TheVariants.{Compress, Merge, Mask}
 
 -- What a bit of T takes: a bit of R or a bit of S.
 pub data SourceBit : Type 0 where
@@ -32,6 +34,12 @@ compress_items t = cond (eqb t.r 0) 0 t.n
 abbrev pub merge_items : Runs → ℕ
 merge_items t = cond (eqb t.r 0 || eqb t.s 0) 0 t.n
 
+-- §8.1: how many items each of the three has.
+abbrev pub bit_items : Rule → Runs → ℕ
+bit_items Compress t = compress_items t
+bit_items Merge t = merge_items t
+bit_items Mask t = merge_items t
+
 -- One past the bit of R, or of S, that is taken; 0 where the other source is.
 abbrev pub past_r : SourceBit → ℕ
 past_r (of_r i) = i + 1
@@ -61,3 +69,14 @@ mask_r t = furthest (λ j. past_r (mask_takes t j)) (merge_items t)
 
 abbrev pub mask_s : Runs → ℕ
 mask_s t = furthest (λ j. past_s (mask_takes t j)) (merge_items t)
+
+-- The same by rule. A compress has no S.
+abbrev pub bits_of_r : Rule → Runs → ℕ
+bits_of_r Compress t = compress_r t
+bits_of_r Merge t = merge_r t
+bits_of_r Mask t = mask_r t
+
+abbrev pub bits_of_s : Rule → Runs → ℕ
+bits_of_s Compress t = 0
+bits_of_s Merge t = merge_s t
+bits_of_s Mask t = mask_s t

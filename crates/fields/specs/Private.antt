@@ -1,3 +1,2 @@
 -- What only private functions promise, in terms of their own; no public contract comes to it.
-pub mod Ends
 pub mod Cycles

@@ -6,7 +6,7 @@ ghost use Rattle.fields.specs.Extents.{width_of, field_of, absent_field, aligned
 use crate::units::{BitAddress, BitCount, ByteCount, HalfWordCount, ORIGIN, WordCount};
 
 // What a field's items are.
-#[derive(Clone, Copy)]
+#[derive(Clone, Copy, PartialEq)]
 pub enum Unit {
     Bit,
     Byte,
@@ -23,7 +23,7 @@ pub struct Field {
 }
 
 impl Unit {
-    // The bits of an item.
+    // The bits of an item: by cases, as the definition says them, for how wide a unit is is not which one it is.
     fn width(self) -> u64
         ensures { (result ≡ width_of self) × (0 < result) }
     {
@@ -37,6 +37,7 @@ impl Unit {
 }
 
 impl Field {
+    // One for each count, whose type fixes the unit. The new form is no plainer: over a trait each count would have an impl as long as one of these.
     pub fn of_bits(base: BitAddress, items: BitCount) -> Field
         ensures { result ≡ field_of Bit base items.0 }
     {
@@ -81,7 +82,7 @@ impl Field {
         }
     }
 
-    // A field that is not there.
+    // A field that is not there. Not an Option, which would be no plainer: by §12.19 it is one of no bits, and no check asks for it apart.
     pub fn absent() -> Field
         ensures { result ≡ absent_field }
     {
@@ -96,12 +97,7 @@ impl Field {
     pub fn aligned(self) -> bool
         ensures { result ≡ aligned self }
     {
-        if self.bits.0 == 0 {
-            return true;
-        }
-        let unit = self.unit;
-        let width = unit.width();
-        self.base.0 % width == 0
+        self.bits.0 == 0 || self.base.0 % self.unit.width() == 0
     }
 
     // It is empty, or wholly in that many lent bytes. The bytes up to its end are counted, for its end in bits may be past 64.
@@ -111,14 +107,14 @@ impl Field {
         let bits = self.bits.0;
         let base = self.base.0;
         if bits == 0 {
-            return true;
+            true
+        } else if base < ORIGIN {
+            false
+        } else {
+            let at = base - ORIGIN;
+            let bytes = at / 8 + bits / 8 + (at % 8 + bits % 8 + 7) / 8;
+            bytes <= lent.0
         }
-        if base < ORIGIN {
-            return false;
-        }
-        let at = base - ORIGIN;
-        let bytes = at / 8 + bits / 8 + (at % 8 + bits % 8 + 7) / 8;
-        bytes <= lent.0
     }
 
     // A bit is in both. Starts are compared by their difference, so no end is computed.
@@ -130,30 +126,20 @@ impl Field {
         let a = self.base.0;
         let b = other.base.0;
         if n == 0 {
-            return false;
+            false
+        } else if m == 0 {
+            false
+        } else if a < b {
+            b - a < n
+        } else {
+            a - b < m
         }
-        if m == 0 {
-            return false;
-        }
-        if a < b {
-            return b - a < n;
-        }
-        a - b < m
     }
 
     // The result may be stored over the source, item by item: the same unit, a word, and the same start.
     pub fn in_place(self, source: Field) -> bool
         ensures { result ≡ in_place self source }
     {
-        let unit = self.unit;
-        let other = source.unit;
-        let width = unit.width();
-        if width != other.width() {
-            return false;
-        }
-        if width != 64 {
-            return false;
-        }
-        self.base.0 == source.base.0
+        self.unit == Unit::Word && (source.unit == Unit::Word && self.base.0 == source.base.0)
     }
 }

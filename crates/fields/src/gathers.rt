@@ -1,9 +1,17 @@
 // How far the source fields of compress, merge and mask run: to the last bit read if every item were stored.
-ghost use Rattle.std.specs.Prelude.{◌≡◌, min};
-ghost use Rattle.fields.specs.Gathers.{furthest, compress_items, merge_items, compress_r, merge_r, merge_s, mask_r, mask_s};
+ghost use Rattle.std.specs.Prelude.{◌≡◌};
+ghost use Rattle.fields.specs.Gathers.{furthest, bit_items, bits_of_r, bits_of_s};
 ghost use Rattle.fields.specs.Private.Cycles.{past_of, Allowed};
 
 use crate::units::BitCount;
+
+// Which bits of R and S become those of T.
+#[derive(Clone, Copy)]
+pub enum Rule {
+    Compress,
+    Merge,
+    Mask,
+}
 
 // The lengths in R, S and T.
 #[derive(Clone, Copy)]
@@ -24,14 +32,8 @@ struct Cycles {
     at: u64,
 }
 
-fn least(a: u64, b: u64) -> u64
-    ensures { result ≡ min a b }
-{
-    if a < b { a } else { b }
-}
-
 impl Cycles {
-    // One past the last bit that the first n items read.
+    // One past the last bit that the first n items read. The 0 of two of its exits is a count of bits.
     fn reach(self, n: u64) -> u64
         requires { Allowed self n }
         ensures { result ≡ furthest (past_of self) n }
@@ -46,7 +48,7 @@ impl Cycles {
         let cycles = n / self.period;
         let place = n % self.period;
         if from < place {
-            return cycles * stride + at + least(place - from, long);
+            return cycles * stride + at + long.min(place - from);
         }
         if cycles == 0 {
             return 0;
@@ -56,111 +58,58 @@ impl Cycles {
 }
 
 impl Runs {
-    // The items of a compress.
-    pub fn compress_items(self) -> BitCount
-        ensures { result.0 ≡ compress_items self }
+    // The items of T.
+    pub fn items(self, rule: Rule) -> BitCount
+        ensures { result.0 ≡ bit_items rule self }
     {
-        if self.r == 0 {
-            return BitCount(0);
-        }
-        BitCount(self.n as u64)
+        let none = match rule {
+            Rule::Compress => self.r == 0,
+            Rule::Merge | Rule::Mask => self.r == 0 || self.s == 0,
+        };
+        BitCount(if none { 0 } else { self.n as u64 })
     }
 
-    // The items of a merge or a mask.
-    pub fn merge_items(self) -> BitCount
-        ensures { result.0 ≡ merge_items self }
+    // The bits of R that are read.
+    pub fn of_r(self, rule: Rule) -> BitCount
+        ensures { result.0 ≡ bits_of_r rule self }
     {
-        if self.r == 0 {
-            return BitCount(0);
-        }
-        if self.s == 0 {
-            return BitCount(0);
-        }
-        BitCount(self.n as u64)
-    }
-
-    // The bits of R that a compress reads.
-    pub fn compress_r(self) -> BitCount
-        ensures { result.0 ≡ compress_r self }
-    {
-        let n = self.compress_items();
+        let n = self.items(rule).0;
         let r = self.r as u64;
         let s = self.s as u64;
+        let (period, stride) = match rule {
+            Rule::Compress => (r, r + s),
+            Rule::Merge => (r + s, r),
+            Rule::Mask => (r + s, r + s),
+        };
         let cycles = Cycles {
-            period: r,
+            period,
             from: 0,
             long: r,
-            stride: r + s,
+            stride,
             at: 0,
         };
-        BitCount(cycles.reach(n.0))
+        BitCount(cycles.reach(n))
     }
 
-    // The bits of R that a merge reads.
-    pub fn merge_r(self) -> BitCount
-        ensures { result.0 ≡ merge_r self }
+    // The bits of S that are read.
+    pub fn of_s(self, rule: Rule) -> BitCount
+        ensures { result.0 ≡ bits_of_s rule self }
     {
-        let n = self.merge_items();
+        let n = self.items(rule).0;
         let r = self.r as u64;
         let s = self.s as u64;
-        let cycles = Cycles {
-            period: r + s,
-            from: 0,
-            long: r,
-            stride: r,
-            at: 0,
+        let (stride, at) = match rule {
+            Rule::Compress => return BitCount(0),
+            Rule::Merge => (s, 0),
+            Rule::Mask => (r + s, r),
         };
-        BitCount(cycles.reach(n.0))
-    }
-
-    // The bits of S that a merge reads.
-    pub fn merge_s(self) -> BitCount
-        ensures { result.0 ≡ merge_s self }
-    {
-        let n = self.merge_items();
-        let r = self.r as u64;
-        let s = self.s as u64;
         let cycles = Cycles {
             period: r + s,
             from: r,
             long: s,
-            stride: s,
-            at: 0,
+            stride,
+            at,
         };
-        BitCount(cycles.reach(n.0))
-    }
-
-    // The bits of R that a mask reads.
-    pub fn mask_r(self) -> BitCount
-        ensures { result.0 ≡ mask_r self }
-    {
-        let n = self.merge_items();
-        let r = self.r as u64;
-        let s = self.s as u64;
-        let cycles = Cycles {
-            period: r + s,
-            from: 0,
-            long: r,
-            stride: r + s,
-            at: 0,
-        };
-        BitCount(cycles.reach(n.0))
-    }
-
-    // The bits of S that a mask reads.
-    pub fn mask_s(self) -> BitCount
-        ensures { result.0 ≡ mask_s self }
-    {
-        let n = self.merge_items();
-        let r = self.r as u64;
-        let s = self.s as u64;
-        let cycles = Cycles {
-            period: r + s,
-            from: r,
-            long: s,
-            stride: r + s,
-            at: r,
-        };
-        BitCount(cycles.reach(n.0))
+        BitCount(cycles.reach(n))
     }
 }

@@ -1,6 +1,6 @@
 // The lent memory at bit addresses. Each read and write asks that its place lies in memory and, but for a bit, begins with a byte: a caller proves that it
 // does, as the layer above does by its verdict. Each contract says what is read, and what memory holds afterwards in every bit.
-ghost use Rattle.std.specs.Prelude.{◌≡◌, ◌-◌, ◌^◌, ◌≤◌, ◌<◌};
+ghost use Rattle.std.specs.Prelude.{◌≡◌, ◌-◌, ◌*◌, ◌^◌, ◌≤◌, ◌<◌};
 ghost use Rattle.fields.specs.Memory.{right_length, origin, InMemory, AtByte, field_at, Stored};
 
 use crate::bytes;
@@ -35,44 +35,17 @@ pub fn write_bit(m: &mut [u8], a: BitAddress, v: u64)
     bytes::put_bit(m, offset(a), v)
 }
 
-pub fn read_byte(m: &[u8], a: BitAddress) -> u64
-    requires { AtByte m.now a.0 8 }
-    ensures { result ≡ field_at m.now a.0 8 }
+// The item of WIDTH bytes at an address: bytes::BYTE, bytes::HALF_WORD or bytes::WORD of them. That WIDTH is at most 8 no value can carry.
+pub fn read<const WIDTH: usize>(m: &[u8], a: BitAddress) -> u64
+    requires { (WIDTH ≤ 8) × AtByte m.now a.0 (8 * WIDTH) }
+    ensures { result ≡ field_at m.now a.0 (8 * WIDTH) }
 {
-    bytes::byte(m, offset(a) / 8)
+    bytes::read::<WIDTH>(m, offset(a) / 8)
 }
 
-pub fn write_byte(m: &mut [u8], a: BitAddress, v: u64)
-    requires { AtByte m.old a.0 8 × (v < 2 ^ 8) }
-    ensures { Stored m.old a.0 8 v m.new }
+pub fn write<const WIDTH: usize>(m: &mut [u8], a: BitAddress, v: u64)
+    requires { (0 < WIDTH) × (WIDTH ≤ 8) × AtByte m.old a.0 (8 * WIDTH) × (v < 2 ^ (8 * WIDTH)) }
+    ensures { Stored m.old a.0 (8 * WIDTH) v m.new }
 {
-    bytes::put_byte(m, offset(a) / 8, v)
-}
-
-pub fn read_half_word(m: &[u8], a: BitAddress) -> u64
-    requires { AtByte m.now a.0 32 }
-    ensures { result ≡ field_at m.now a.0 32 }
-{
-    bytes::half_word(m, offset(a) / 8)
-}
-
-pub fn write_half_word(m: &mut [u8], a: BitAddress, v: u64)
-    requires { AtByte m.old a.0 32 × (v < 2 ^ 32) }
-    ensures { Stored m.old a.0 32 v m.new }
-{
-    bytes::put_half_word(m, offset(a) / 8, v)
-}
-
-pub fn read_word(m: &[u8], a: BitAddress) -> u64
-    requires { AtByte m.now a.0 64 }
-    ensures { result ≡ field_at m.now a.0 64 }
-{
-    bytes::word(m, offset(a) / 8)
-}
-
-pub fn write_word(m: &mut [u8], a: BitAddress, v: u64)
-    requires { AtByte m.old a.0 64 }
-    ensures { Stored m.old a.0 64 v m.new }
-{
-    bytes::put_word(m, offset(a) / 8, v)
+    bytes::put::<WIDTH>(m, offset(a) / 8, v)
 }

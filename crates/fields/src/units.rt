@@ -12,6 +12,7 @@ pub const ORIGIN: u64 = 0x4000;
 #[derive(Clone, Copy)]
 pub struct BitAddress(pub u64);
 
+// A tuple struct for each unit, with one shift of its own, so that none stands in for another: the form of this place is not to change (decision 78).
 #[derive(Clone, Copy)]
 pub struct BitCount(pub u64);
 

@@ -8,5 +8,5 @@ returns-then-bits-eq0 c = empty_inside c.args.self _ c.if-bits-eq0.true
 pub returns-then-base-lt-ORIGIN : goal.returns-then-base-lt-ORIGIN
 returns-then-base-lt-ORIGIN c = registers_outside c.args.self _ c.if-bits-eq0.false c.if-base-lt-ORIGIN.true
 
-pub returns : goal.returns
-returns c = is_inside c.args.self c.args.lent.0 c.if-bits-eq0.false c.if-base-lt-ORIGIN.false
+pub returns-else-base-lt-ORIGIN : goal.returns-else-base-lt-ORIGIN
+returns-else-base-lt-ORIGIN c = is_inside c.args.self c.args.lent.0 c.if-bits-eq0.false c.if-base-lt-ORIGIN.false

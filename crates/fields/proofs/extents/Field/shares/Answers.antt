@@ -11,5 +11,5 @@ returns-then-m-eq0 c = second_empty c.args.self c.args.other c.if-n-eq0.false c.
 pub returns-then-a-b : goal.returns-then-a-b
 returns-then-a-b c = starts_before c.args.self c.args.other c.if-n-eq0.false c.if-m-eq0.false c.if-a-b.true
 
-pub returns : goal.returns
-returns c = starts_after c.args.self c.args.other c.if-n-eq0.false c.if-m-eq0.false c.if-a-b.false
+pub returns-else-a-b : goal.returns-else-a-b
+returns-else-a-b c = starts_after c.args.self c.args.other c.if-n-eq0.false c.if-m-eq0.false c.if-a-b.false
