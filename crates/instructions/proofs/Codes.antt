@@ -16,9 +16,9 @@ use Rattle.fields.specs.declared.gathers.Runs.{Runs}
 use Rattle.fields.specs.Field.{field, store}
 use Rattle.fields.specs.Memory.{origin}
 use Rattle.fields.specs.Gathers.{SourceBit, of_r, of_s, compress_takes, merge_takes, mask_takes, compress_items, merge_items}
-use Rattle.instructions.specs.declared.items.Made.{Made}
+use Rattle.numbers.specs.declared.flags.Made.{Made}
 use Rattle.instructions.specs.declared.operands.Operands.{Operands}
-use Rattle.instructions.specs.Meanings.{plain, of_word, of_half, same, less}
+use Rattle.instructions.specs.Meanings.{plain, same, less}
 use Rattle.instructions.specs.Operands.{g_bit, gathered, length_in, indexed}
 use Rattle.instructions.specs.Fetch.{length_of}
 use Rattle.instructions.specs.Effects.{with_half}
@@ -84,10 +84,10 @@ module _ (s : Before) where
   -- ---- one step
 
   -- register T, or the half word T, becomes what is made, and its flags are set
-  abbrev pub to_t : Made → Result
+  abbrev pub to_t : Made ℕ → Result
   to_t r = becomes (leaving s.memory (set s.registers (number_t s.word) r.item) past (bit_or s.flags r.flags))
 
-  abbrev pub to_half_t : Made → Result
+  abbrev pub to_half_t : Made ℕ → Result
   to_half_t r = becomes (leaving s.memory (with_half (number_t s.word) r.item s.registers) past (bit_or s.flags r.flags))
 
   -- the byte at R plus S bytes, the word at R plus S words
@@ -110,7 +110,7 @@ module _ (s : Before) where
   -- ---- item by item
 
   -- n items of w bits from bit c of memory on: item i becomes what is made of it, if it is stored, and else keeps its bits and sets no flag
-  module _ (w c : ℕ) (stored : ℕ → Bool) (made : ℕ → Made) where
+  module _ (w c : ℕ) (stored : ℕ → Bool) (made : ℕ → Made ℕ) where
     abbrev pub items_in : ℕ → ℕ
     items_in zero = s.memory
     items_in (suc i) = store (8 * s.bytes) (c + i * w) w (cond (stored i) ((made i).item % 2 ^ w) (bits_from (c + i * w) w)) (items_in i)
@@ -134,7 +134,7 @@ module _ (s : Before) where
   stored i = eqb (field 64 48 8 s.word) 0 || eqb (bits_from (low48 Z - origin + i) 1) (cond (g_bit 1 s.word) 0 1)
 
   -- items of C, words or half words: as many as the length of C says
-  abbrev pub items_of_c : ℕ → (ℕ → Made) → Result
+  abbrev pub items_of_c : ℕ → (ℕ → Made ℕ) → Result
   items_of_c w made = to_items w (low48 C - origin) stored made (length_in C)
 
   -- r, s and n; a bit of R or of S, of which none is read where its base is zero
@@ -179,11 +179,11 @@ codes =
     does 0x2E (λ s. to_t s (plain (bit_or (R s) (S s)))) ∷  -- inclusive or
     does 0x63 (λ s. to_t s (plain (sum_of (R s) (S s)))) ∷  -- add low 48
     does 0x67 (λ s. to_t s (plain (difference_of (R s) (S s)))) ∷  -- subtract low 48
-    does 0x70 (λ s. to_t s (of_word (truncate_of (R s)))) ∷  -- truncate
-    does 0x71 (λ s. to_t s (of_word (floor_of (R s)))) ∷  -- floor
-    does 0x72 (λ s. to_t s (of_word (ceiling_of (R s)))) ∷  -- ceiling
-    does 0x76 (λ s. to_half_t s (of_half (contract_of false (R s)))) ∷  -- contract
-    does 0x77 (λ s. to_half_t s (of_half (contract_of true (R s)))) ∷  -- rounded contract
+    does 0x70 (λ s. to_t s (truncate_of (R s))) ∷  -- truncate
+    does 0x71 (λ s. to_t s (floor_of (R s))) ∷  -- floor
+    does 0x72 (λ s. to_t s (ceiling_of (R s))) ∷  -- ceiling
+    does 0x76 (λ s. to_half_t s (contract_of false (R s))) ∷  -- contract
+    does 0x77 (λ s. to_half_t s (contract_of true (R s))) ∷  -- rounded contract
     does 0x78 (λ s. to_t s (plain (R s))) ∷  -- transmit
     does 0x7A (λ s. to_t s (plain (exponent_word (R s)))) ∷  -- exponent
     does 0x7B (λ s. to_t s (plain (packed_of (R s) (S s)))) ∷  -- pack
@@ -193,11 +193,11 @@ codes =
     does 0x83 (λ s. items_of_c s 64 (λ i. plain (sum_of (item_a s i) (item_b s i)))) ∷  -- vector add low 48
     does 0x87 (λ s. items_of_c s 64 (λ i. plain (difference_of (item_a s i) (item_b s i)))) ∷  -- vector subtract low 48
     does 0x8A (λ s. items_of_c s 64 (λ i. plain (shift_of (item_a s i) (item_b s i)))) ∷  -- vector shift
-    does 0x90 (λ s. items_of_c s 64 (λ i. of_word (truncate_of (item_a s i)))) ∷  -- vector truncate
-    does 0x91 (λ s. items_of_c s 64 (λ i. of_word (floor_of (item_a s i)))) ∷  -- vector floor
-    does 0x92 (λ s. items_of_c s 64 (λ i. of_word (ceiling_of (item_a s i)))) ∷  -- vector ceiling
-    does 0x96 (λ s. items_of_c s 32 (λ i. of_half (contract_of false (item_a s i)))) ∷  -- vector contract
-    does 0x97 (λ s. items_of_c s 32 (λ i. of_half (contract_of true (item_a s i)))) ∷  -- vector rounded contract
+    does 0x90 (λ s. items_of_c s 64 (λ i. truncate_of (item_a s i))) ∷  -- vector truncate
+    does 0x91 (λ s. items_of_c s 64 (λ i. floor_of (item_a s i))) ∷  -- vector floor
+    does 0x92 (λ s. items_of_c s 64 (λ i. ceiling_of (item_a s i))) ∷  -- vector ceiling
+    does 0x96 (λ s. items_of_c s 32 (λ i. contract_of false (item_a s i))) ∷  -- vector contract
+    does 0x97 (λ s. items_of_c s 32 (λ i. contract_of true (item_a s i))) ∷  -- vector rounded contract
     does 0x98 (λ s. items_of_c s 64 (λ i. plain (item_a s i))) ∷  -- vector transmit
     does 0xB0 (λ s. to_c s (λ unsigned sum z. same sum z)) ∷  -- add, branch if equal
     does 0xB1 (λ s. to_c s (λ unsigned sum z. not (same sum z))) ∷  -- add, branch if not equal

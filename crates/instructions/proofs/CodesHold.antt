@@ -2,6 +2,7 @@
 use mathlib.Core.Path.{◌≡◌, refl, sym, ap, ap₂, ◌∙◌}
 use mathlib.Core.List.{List, [], ◌∷◌, map}
 use mathlib.Core.Bool.{Bool, true, false, cond, not, ◌&&◌, ◌||◌}
+use Rattle.std.specs.Prelude.{Some, None}
 use Prim.Native.Nat.{ℕ, zero, suc, ◌+◌, ◌*◌, ◌%◌, ◌^◌, ◌≤◌, ◌<◌}
 use native.Mathlib.Nat.{mod-lt, mod-eq_of_lt, zero-mul}
 use native.Mathlib.Omega.{arith}
@@ -14,20 +15,17 @@ use Rattle.numbers.proofs.Raised.{either}
 use Rattle.fields.specs.Field.{field, store, side_by_side}
 use Rattle.fields.specs.Memory.{right_length}
 use Rattle.fields.specs.Units.{formed}
-use Rattle.fields.specs.Gathers.{SourceBit, of_r, of_s}
+use Rattle.fields.specs.Gathers.{SourceBit, of_r, of_s, bit_items}
 use Rattle.fields.proofs.Places.{field_lt, store_none}
 use Rattle.fields.proofs.Turns.{in_turn, at_once}
 use Rattle.fields.specs.declared.extents.Unit.TheVariants.{Byte}
-use Rattle.instructions.specs.declared.items.Made.{Made}
-use Rattle.instructions.specs.declared.items.Control.TheVariants.{Every, Where}
-use Rattle.instructions.specs.declared.items.SecondBits.TheVariants.{From, Zeros}
-use Rattle.instructions.specs.declared.effects.Next.TheVariants.{Following, Target}
+use Rattle.numbers.specs.declared.flags.Made.{Made}
 use Rattle.fields.specs.declared.units.BitAddress.{BitAddress}
 use Rattle.instructions.specs.Meanings.{plain, goes_by_items, kind_for, to_t, to_half_t, loads_byte, loads_word, stores_byte, stores_word, gathers, each_of_a_b, each_of_a, half_of_a, moves, Meaning, unlisted, exits, acts, branches, works}
 use Rattle.instructions.specs.Table.{Line, table, meaning_of}
 use Rattle.instructions.specs.Operands.{code_in, found_in, meaning_in, row_says, g_bit, length_in, indexed}
-use Rattle.instructions.specs.declared.table.Found.{Found}
-use Rattle.instructions.specs.declared.table.Found.TheVariants.{At, Nothing}
+use Rattle.std.specs.Prelude.{Option, Some, None}
+use Rattle.instructions.specs.declared.table.Row.{Row}
 use Rattle.instructions.specs.declared.operands.Operands.{Operands}
 use Rattle.instructions.specs.Fetch.{length_of}
 use Rattle.instructions.specs.Branches.{taken_of, target_of, branch_of}
@@ -35,7 +33,7 @@ use Rattle.instructions.specs.Verdict.{not_in_memory, at_exit, check, word_check
 use Rattle.instructions.specs.Effects.{next_p}
 use Rattle.instructions.specs.Scalars.{outcome_in, scalar_of}
 use Rattle.instructions.specs.Items.{bits, fixed, Shape, value_at, stored_at, made_at, item_at, flags_at, worked, flags_together, whole}
-use Rattle.instructions.specs.Plan.{source_item, control_bit, sense_of, second_bit, bit_of, taken_by, byte_of, bit_items, shape_of, items_of}
+use Rattle.instructions.specs.Plan.{source_item, control_bit, sense_of, second_bit, bit_of, taken_by, byte_of, shape_of, items_of}
 use Rattle.instructions.specs.Planned.{place_of, source_in, control_in, second_in, plan_in}
 use Rattle.instructions.specs.Instruction.{by_items, plan_of, count_of, whole_of, leaving, done_by, acts_of}
 use Rattle.instructions.proofs.Codes as C
@@ -44,10 +42,13 @@ use Rattle.instructions.proofs.VerdictTests.{never, both_true}
 use Rattle.instructions.proofs.VerdictOrder.{Passes, next, verdict_none, only_one}
 use Rattle.instructions.proofs.TablePlaces.{every}
 use Rattle.instructions.proofs.TableRules.{ends as ends_kind, In, here, there, one_meaning, its}
-use Rattle.instructions.proofs.Addressed.{cleared}
 use Rattle.instructions.proofs.Passing.{sound}
 use Rattle.instructions.proofs.Readied.{accepted}
 use Rattle.instructions.proofs.Steps.{verdict_there}
+
+-- a byte is all that the register holds
+cleared : (v : ℕ) → store 64 56 8 v 0 ≡ v
+cleared v = omega arith
 
 -- what comes of a meaning
 abbrev pub comes_of : Meaning → Before → Result
@@ -83,9 +84,9 @@ module _ (s : Before) (lent : right_length s.bytes ≡ true) (passes : verdict_o
   not_ending : ends_kind (kind_for (meaning_in s.word)) ≡ false
   not_ending = go ((verdict_none s.p s.word (C.named s) s.bytes).0 passes)
     where
-      listed : (f : Found) → found_in s.word ≡ f → row_says true (λ r. false) f ≡ false → eqb (code_in s.word) 0x09 ≡ false → ends_kind (kind_for (meaning_in s.word)) ≡ false
-      listed (At r) e h x = let i = its (code_in s.word) r e in ap ends_kind (sym i.kind) ∙ i.exit ∙ x
-      listed Nothing e h x = never h
+      listed : (f : Option Row) → found_in s.word ≡ f → row_says true (λ r. false) f ≡ false → eqb (code_in s.word) 0x09 ≡ false → ends_kind (kind_for (meaning_in s.word)) ≡ false
+      listed (Some r) e h x = let i = its (code_in s.word) r e in ap ends_kind (sym i.kind) ∙ i.exit ∙ x
+      listed None e h x = never h
 
       go : Passes (case_of s.p s.word (C.named s) s.bytes) checks → ends_kind (kind_for (meaning_in s.word)) ≡ false
       go (next _ (next h (next _ (next _ (next x _))))) = listed (found_in s.word) refl h x
@@ -100,7 +101,7 @@ module _ (s : Before) (lent : right_length s.bytes ≡ true) (passes : verdict_o
 
   -- ---- one step
 
-  gone : (b : Bool) (a : BitAddress) → next_p s.p (length_of s.word) (cond b (Target a) Following) ≡ cond b a.0 (C.past s)
+  gone : (b : Bool) (a : BitAddress) → next_p s.p (length_of s.word) (cond b (Some a) None) ≡ cond b a.0 (C.past s)
   gone true a = refl
   gone false a = on
 
@@ -124,7 +125,7 @@ module _ (s : Before) (lent : right_length s.bytes ≡ true) (passes : verdict_o
   -- ---- item by item
 
   -- items of a shape of which it is known when each is stored and what is made for it
-  module _ (sh : Shape) (stored : ℕ → Bool) (made : ℕ → Made)
+  module _ (sh : Shape) (stored : ℕ → Bool) (made : ℕ → Made ℕ)
       (stores : (i : ℕ) → stored_at sh L i s.memory ≡ stored i) (makes : (i : ℕ) → made_at sh L i s.memory ≡ made i) where
     abbrev value : ℕ → ℕ
     value i = cond (stored i) ((made i).item % 2 ^ sh.width) (C.bits_from s (sh.result + i * sh.width) sh.width)
@@ -171,7 +172,7 @@ module _ (s : Before) (lent : right_length s.bytes ≡ true) (passes : verdict_o
   stored_is i = go (eqb (field 64 48 8 s.word) 0) (g_bit 1 s.word)
     where
       go : (none turned : Bool)
-          → eqb (value_at L 1 (control_bit (cond none Every (Where (place_of (low48 (C.Z s))) (not turned))) i) s.memory) (sense_of (cond none Every (Where (place_of (low48 (C.Z s))) (not turned))))
+          → eqb (value_at L 1 (control_bit (cond none None (Some (record { base = place_of (low48 (C.Z s)); ones = not turned }))) i) s.memory) (sense_of (cond none None (Some (record { base = place_of (low48 (C.Z s)); ones = not turned }))))
           ≡ none || eqb (C.bits_from s (place_of (low48 (C.Z s)) + i) 1) (cond turned 0 1)
       go true turned = refl
       go false true = refl
@@ -181,7 +182,7 @@ module _ (s : Before) (lent : right_length s.bytes ≡ true) (passes : verdict_o
   bit_is (of_r j) = refl
   bit_is (of_s j) = go (eqb (low48 (C.S s)) 0)
     where
-      go : (none : Bool) → value_at L 1 (second_bit (cond none Zeros (From (place_of (low48 (C.S s))))) j) s.memory ≡ cond none 0 (C.bits_from s (place_of (low48 (C.S s)) + j) 1)
+      go : (none : Bool) → value_at L 1 (second_bit (cond none None (Some (place_of (low48 (C.S s))))) j) s.memory ≡ cond none 0 (C.bits_from s (place_of (low48 (C.S s)) + j) 1)
       go true = refl
       go false = refl
 

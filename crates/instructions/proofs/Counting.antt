@@ -20,14 +20,13 @@ use Rattle.instructions.specs.Plan.{Plan, vectors, items_of}
 use Rattle.instructions.specs.Planned.{vector_in, plan_in}
 use Rattle.instructions.specs.Instruction.{by_items, plan_of, count_of}
 use Rattle.instructions.specs.Private.Inner.{Past}
-use Rattle.instructions.specs.Private.Loops.{lanes_for, makes_at, width_at, single_at, Suited}
+use Rattle.instructions.specs.Private.Loops.{makes_at, width_at}
 use Rattle.instructions.proofs.Conjunctions.{and_first, and_rest}
 use Rattle.instructions.proofs.VerdictTests.{never, both_false}
 use Rattle.instructions.proofs.VerdictOrder.{Passes, next, verdict_none}
 use Rattle.instructions.proofs.TablePlaces.{every, means_in, Looked, has, none, looked, those}
 use Rattle.instructions.proofs.ByCode.{not_of}
 use Rattle.instructions.proofs.TableRules.{of_two, of_one, second_rule}
-use Rattle.instructions.proofs.PlainNumbers.{alone_lane}
 
 -- ---- bits, and bits or bytes, by their meaning
 
@@ -140,22 +139,22 @@ second_as p w o n passes = go (looked (code_in w)) ((verdict_none p w o n).0 pas
     go (has l c t e m) (next _ (next _ (next z (next y _)))) = rw m (line_ruled w l (t second_rule tt) (rw e at z) (rw e at y))
 
 -- so the plan of a vector is known from its word alone
-vector_as : (w : ℕ) (o : Operands) {k : ℕ} (v : VectorPlan) → v ≡ vector_in (eqb (field 64 40 8 w) 0) w o → (m : Meaning) → meaning_of k ≡ m → goes_by_items m ≡ true → of_bits_or_bytes m ≡ false → Ruled w m
-    → (vectors v (width_at k) (makes_at k) ≡ plan_in m w o) × Suited k (lanes_for v)
-unfolding width_at makes_at single_at plan_in
-vector_as w o v e unlisted em is nb ru = never (sym is)
-vector_as w o v e exits em is nb ru = never (sym is)
-vector_as w o v e (acts a) em is nb ru = never (sym is)
-vector_as w o v e (branches c) em is nb ru = never (sym is)
-vector_as w o v e (works (gathers rule)) em is nb ru = never nb
-vector_as w o v e (works moves) em is nb ru = never nb
-vector_as w o v e (works (each_of_a_b f)) em is nb ru = (rw (em, e, ru.0 refl), record { some = rw em (omega arith); alone = λ h. never (sym (rw em at h)) })
-vector_as w o v e (works (each_of_a f)) em is nb ru = (rw (em, e, ru.1 refl), record { some = rw em (omega arith); alone = λ h. rw (e, ru.1 refl) (alone_lane w o) })
-vector_as w o v e (works (half_of_a f)) em is nb ru = (rw (em, e, ru.1 refl), record { some = rw em (omega arith); alone = λ h. rw (e, ru.1 refl) (alone_lane w o) })
+vector_as : (w : ℕ) (o : Operands) (k : ℕ) (v : VectorPlan) → v ≡ vector_in (eqb (field 64 40 8 w) 0) w o → (m : Meaning) → meaning_of k ≡ m → goes_by_items m ≡ true → of_bits_or_bytes m ≡ false → Ruled w m
+    → (vectors v (width_at k) (makes_at k) ≡ plan_in m w o) × (0 < width_at k)
+unfolding width_at makes_at plan_in
+vector_as w o k v e unlisted em is nb ru = never (sym is)
+vector_as w o k v e exits em is nb ru = never (sym is)
+vector_as w o k v e (acts a) em is nb ru = never (sym is)
+vector_as w o k v e (branches c) em is nb ru = never (sym is)
+vector_as w o k v e (works (gathers rule)) em is nb ru = never nb
+vector_as w o k v e (works moves) em is nb ru = never nb
+vector_as w o k v e (works (each_of_a_b f)) em is nb ru = (rw (em, e, ru.0 refl), rw em (omega arith))
+vector_as w o k v e (works (each_of_a f)) em is nb ru = (rw (em, e, ru.1 refl), rw em (omega arith))
+vector_as w o k v e (works (half_of_a f)) em is nb ru = (rw (em, e, ru.1 refl), rw em (omega arith))
 
 pub vector_plans : (p w : ℕ) (o : Operands) (n : ℕ) {k : ℕ} (v : VectorPlan) → k ≡ code_in w → by_items w ≡ true → verdict_of p w o n ≡ 0
     → Past (λ (l : Line). l.code) (Unit {0}) (those (λ l. of_bits_or_bytes l.means) table) k → v ≡ vector_in (eqb (field 64 40 8 w) 0) w o
-    → (vectors v (width_at k) (makes_at k) ≡ plan_of w o) × Suited k (lanes_for v)
+    → (vectors v (width_at k) (makes_at k) ≡ plan_of w o) × (0 < width_at k)
 unfolding by_items plan_of
 vector_plans p w o n {k} v code is passes q e =
-    vector_as w o v e (meaning_in w) (ap meaning_of code) is (ap of_bits_or_bytes (ap meaning_of (sym code)) ∙ not_of of_bits_or_bytes refl k q) (second_as p w o n passes)
+    vector_as w o k v e (meaning_in w) (ap meaning_of code) is (ap of_bits_or_bytes (ap meaning_of (sym code)) ∙ not_of of_bits_or_bytes refl k q) (second_as p w o n passes)

@@ -16,7 +16,7 @@ use Rattle.fields.specs.Memory.{origin, AtByte, field_at}
 use Rattle.fields.proofs.Places.{field_lt, field_join}
 use Rattle.fields.proofs.FieldMeaning.{Multiple, aligned_multiple, inside_every, inside_ends, all_bits}
 use Rattle.instructions.specs.declared.table.Row.{Row}
-use Rattle.instructions.specs.declared.table.Found.{Found}
+use Rattle.std.specs.Prelude.{Option, Some, None}
 use Rattle.instructions.specs.Operands.{code_in, found_in, row_says}
 use Rattle.instructions.specs.Table.{format_of, long, found}
 use Rattle.instructions.specs.Private.Inner.{code_of}
@@ -25,18 +25,14 @@ use Rattle.instructions.proofs.TablePlaces.{every}
 use Rattle.instructions.proofs.TableRules.{row_passes, found_code}
 use Rattle.instructions.proofs.VerdictTests.{both_true, both_false}
 
--- what is asked of the row that a word's code was found to have
-pub row_found : {A : Type 0} (else : A) (ask : Row → A) (w k : ℕ) (f g : Found) → k ≡ code_in w → f ≡ found k → f ≡ g → row_says else ask g ≡ row_says else ask (found_in w)
-row_found else ask w k f g ek ef eg = ap (λ (h : Found). row_says else ask h) (sym eg ∙ ef ∙ ap found ek)
-
 -- codes below 80 have 32 bits
 pub short_code : (w : ℕ) → code_in w < 0x80 → false ≡ long_in w
 unfolding long_in every
 short_code w low = go (found_in w) refl
   where
-    go : (f : Found) → found_in w ≡ f → false ≡ row_says false (λ r. long (format_of r)) f
-    go Found.Nothing e = refl
-    go (Found.At r) e = same (long (format_of r)) (leb 0x80 (code_of r)) (row_passes (λ x. beq (long (format_of x)) (leb 0x80 (code_of x))) tt (code_in w) r e) (lt-leb 0x80 (code_of r) (let c = found_code (code_in w) r e in omega (arith, c)))
+    go : (f : Option Row) → found_in w ≡ f → false ≡ row_says false (λ r. long (format_of r)) f
+    go None e = refl
+    go (Some r) e = same (long (format_of r)) (leb 0x80 (code_of r)) (row_passes (λ x. beq (long (format_of x)) (leb 0x80 (code_of x))) tt (code_in w) r e) (lt-leb 0x80 (code_of r) (let c = found_code (code_in w) r e in omega (arith, c)))
       where
         same : (a b : Bool) → T (beq a b) → b ≡ false → false ≡ a
         same false b t e = refl

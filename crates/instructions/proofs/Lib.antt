@@ -14,7 +14,6 @@ pub mod ByCode  -- a code picks its line
 pub mod Counting  -- items and plan by the code alone
 -- ---- words
 pub mod WordsFilled  -- all bytes of a word tested at once
-pub mod WordsDecoding  -- a word in each case
 pub mod WordsRoundTrip  -- a word and its parts
 pub mod WordsOrder  -- the order of 5, 6 and 7
 pub mod OperandsGathered  -- what the registers of a short word supply
@@ -28,10 +27,9 @@ pub mod VerdictSteps  -- what takes one step
 pub mod VerdictMeaning  -- what passing 8 to 11 means, in bits
 pub mod VerdictEmpty  -- what has no items, and what nothing is read from
 pub mod VerdictWitness  -- verdicts, computed
-pub mod LayoutMade  -- fields put together
+pub mod LayoutMade  -- the fields of a word, by what it means
 -- ---- one step
 pub mod Outcomes  -- what every meaning of the table has
-pub mod Addressed  -- loads, stores and branches put together
 pub mod AppliedOnce  -- an effect leaves one outcome
 pub mod HalfRegisters  -- one half is written, the other kept
 pub mod Held  -- a coefficient in a signed local
@@ -41,13 +39,11 @@ pub mod Agree  -- in turn or at once
 pub mod Passing  -- what passes the checks is sound
 pub mod Promised  -- accepted plans, cut anywhere
 pub mod Readied  -- what passes may be worked
-pub mod PlansMade  -- a plan put together
 pub mod Working  -- an accepted plan is ready for its loop
 pub mod Unions  -- flags united with flags
 -- ---- loops
 pub mod Turning  -- a turn of any loop
 pub mod Gates  -- a choice without a branch
-pub mod PlainNumbers  -- a vector's plan as plain numbers
 pub mod Wordwise  -- bits within a word, and across two
 pub mod Weaving  -- bits by the run
 pub mod Periodic  -- several periods at once

@@ -3,22 +3,20 @@
 use mathlib.Core.Path.{◌≡◌, refl, ap, ap₂}
 use mathlib.Core.Logic.{inl, inr, ⊎_elim}
 use mathlib.Core.Bool.{Bool, true, false, cond}
+use Rattle.std.specs.Prelude.{Option, Some, None}
 use Prim.Native.Nat.{ℕ, ◌+◌, ◌*◌, ◌≤◌, ◌<◌, min}
 use native.Mathlib.Omega.{arith}
 use borrow.Author.Tests.{ltb-true}
 use lib.Dec.{ltb}
 use Rattle.fields.specs.Field.{Apart}
-use Rattle.fields.specs.Gathers.{SourceBit, of_r, of_s, past_r, past_s, furthest}
+use Rattle.fields.specs.Gathers.{SourceBit, of_r, of_s, past_r, past_s, furthest, bit_items}
 use Rattle.fields.proofs.GatherMeaning.{r_covered, s_covered}
 use Rattle.instructions.specs.declared.items.Source.{Source}
 use Rattle.instructions.specs.declared.items.Source.TheVariants.{Field, Value}
-use Rattle.instructions.specs.declared.items.Control.{Control}
-use Rattle.instructions.specs.declared.items.Control.TheVariants.{Every, Where}
-use Rattle.instructions.specs.declared.items.SecondBits.{SecondBits}
-use Rattle.instructions.specs.declared.items.SecondBits.TheVariants.{From, Zeros}
-use Rattle.instructions.specs.declared.items.Made.{Made}
+use Rattle.instructions.specs.declared.items.Gated.{Gated}
+use Rattle.numbers.specs.declared.flags.Made.{Made}
 use Rattle.instructions.specs.Items.{Place, bits, fixed}
-use Rattle.instructions.specs.Plan.{source_item, control_bit, vector_shape, taken_shape, second_bit, bit_of, byte_of, taken_by, bit_items, Plan, vectors, bit_runs, byte_move, shape_of, items_of}
+use Rattle.instructions.specs.Plan.{source_item, control_bit, vector_shape, taken_shape, second_bit, bit_of, byte_of, taken_by, Plan, vectors, bit_runs, byte_move, shape_of, items_of}
 use Rattle.instructions.specs.Private.Accepted.{Away, SourcePasses, ControlPasses, SecondPasses, Accepted}
 use Rattle.instructions.proofs.Agree.{Clear, Sound}
 
@@ -34,11 +32,11 @@ source_clear L c w n i (Field a) h k = (
 )
 source_clear L c w n i (Value v) h k = tt
 
-control_clear : (L c w n i : ℕ) (z : Control) → i < n → ControlPasses L c w n z → Clear L c w n i 1 (control_bit z i)
-control_clear L c w n i Every h k = tt
-control_clear L c w n i (Where z ones) h k = (omega arith, inl (⊎_elim (λ l. inl (omega arith)) (λ r. inr (omega arith)) k.1))
+control_clear : (L c w n i : ℕ) (z : Option Gated) → i < n → ControlPasses L c w n z → Clear L c w n i 1 (control_bit z i)
+control_clear L c w n i None h k = tt
+control_clear L c w n i (Some z) h k = (omega arith, inl (⊎_elim (λ l. inl (omega arith)) (λ r. inr (omega arith)) k.1))
 
-vector_sound : (L : ℕ) (a b : Source) (z : Control) (c w n : ℕ) (g : ℕ → ℕ → Made) → c + n * w ≤ L
+vector_sound : (L : ℕ) (a b : Source) (z : Option Gated) (c w n : ℕ) (g : ℕ → ℕ → Made ℕ) → c + n * w ≤ L
     → SourcePasses L c w n a → SourcePasses L c w n b → ControlPasses L c w n z → Sound L (vector_shape a b z c w g) n
 vector_sound L a b z c w n g fits fa fb fz =
     record {
@@ -63,11 +61,11 @@ taken_sound L c w n g fits h = record { fits = fits; clear = λ i l. record { on
 part_safe : (L c k a e d n : ℕ) → Away L c k a e → d + n ≤ e → 0 < n → Safe L c k n (bits (a + d))
 part_safe L c k a e d n h le hn = let q = h (omega arith) in (omega arith, ⊎_elim (λ l. inl (omega arith)) (λ r. inr (omega arith)) q.1)
 
-second_safe : (L c n e d : ℕ) (b : SecondBits) → SecondPasses L c n e b → d < e → Safe L c n 1 (second_bit b d)
-second_safe L c n e d (From b) h l = part_safe L c n b e d 1 h.1 (omega arith) (omega arith)
-second_safe L c n e d Zeros h l = tt
+second_safe : (L c n e d : ℕ) (b : Option ℕ) → SecondPasses L c n e b → d < e → Safe L c n 1 (second_bit b d)
+second_safe L c n e d (Some b) h l = part_safe L c n b e d 1 h.1 (omega arith) (omega arith)
+second_safe L c n e d None h l = tt
 
-pub bit_safe : (L c n a : ℕ) (b : SecondBits) (take : ℕ → SourceBit) (N i : ℕ) → i < N → Away L c n a (furthest (λ j. past_r (take j)) N) → SecondPasses L c n (furthest (λ j. past_s (take j)) N) b
+pub bit_safe : (L c n a : ℕ) (b : Option ℕ) (take : ℕ → SourceBit) (N i : ℕ) → i < N → Away L c n a (furthest (λ j. past_r (take j)) N) → SecondPasses L c n (furthest (λ j. past_s (take j)) N) b
     → Safe L c n 1 (bit_of a b (take i))
 bit_safe L c n a b take N i h ha hb = go (take i) refl
   where

@@ -3,27 +3,29 @@ use mathlib.Core.Path.{◌≡◌, refl, sym, ap, ap₂, subst, ◌∙◌}
 use mathlib.Core.Logic.{inl, inr, ⊎_elim}
 use mathlib.Core.Bool.{Bool, true, false, cond}
 use mathlib.Core.List.{List}
+use Rattle.std.specs.Prelude.{Option, Some, None}
 use Prim.Native.Nat.{ℕ, zero, suc, ◌+◌, ◌-◌, ◌*◌, ◌/◌, ◌%◌, ◌^◌, ◌≤◌, ◌<◌}
-use native.Mathlib.Nat.{add-mul, mul-add, mul_assoc, mul_comm, suc-mul, pow-succ', mul-le-mul_left, mul-le-mul_right, add-mul-div_right, add-mul-mod_self_right, div-mul-le_self, le_trans, lt_of_lt_of_le, le-div_iff_mul-le, div-one, mod-lt, mod-eq_of_lt, one-mul}
+use native.Mathlib.Nat.{add-mul, mul-add, mul_assoc, mul_comm, suc-mul, pow-succ', mul-le-mul_left, mul-le-mul_right, add-mul-div_right, add-mul-mod_self_right, div-mul-le_self, zero-div, zero-mod, zero-mul, le_trans, lt_of_lt_of_le, le-div_iff_mul-le, div-one, mod-lt, mod-eq_of_lt}
 use native.Mathlib.Omega.{arith}
-use borrow.Author.Tests.{lt-ltb, le-ltb, ltb-true, ltb-false}
+use borrow.Author.Tests.{lt-ltb, le-ltb}
 use lib.Dec.{ltb}
 use lib.ListN.{length}
 use lib.Bits.{bit_and, and_zero_r, and_block, and_mask}
-use lib.Pow.{pow-add, pow-lt, pow_mono, pow_pos, shl_exact, shr-shr, split, ones_lt, mod-mod-pow}
+use lib.Pow.{pow-add, pow_mono, pow_pos, shl_exact, shr-shr, split, ones_lt, mod-mod-pow}
 use Rattle.fields.specs.Slot.{get}
 use Rattle.fields.specs.Field.{field, store}
 use Rattle.fields.specs.Bytes.{num, size}
 use Rattle.fields.specs.Memory.{Kept}
 use Rattle.fields.proofs.Slots.{get_lt}
 use Rattle.fields.proofs.Places.{field_lt, field_other, field_join, field_field, field_none}
-use Rattle.instructions.specs.declared.bitruns.Sides.{Sides}
 use Rattle.instructions.specs.declared.bitruns.Period.{Period}
-use Rattle.instructions.specs.Items.{Place, bits, fixed, value_at, worked, turns}
-use Rattle.instructions.specs.Plan.{taken_shape}
-use Rattle.instructions.specs.Private.Loops.{TurnedQuietly, Room, cursor_at, woven_at, Paced, ReadyBits, Chunk, spread_of, both_in, span_r, span_s, periods_of}
+use Rattle.instructions.specs.declared.bitruns.Cursor.{Cursor}
+use Rattle.instructions.specs.declared.bitruns.Weave.{Weave}
+use Rattle.instructions.specs.Items.{Place, bits, fixed, value_at, Shape, worked, turns}
+use Rattle.instructions.specs.Plan.{second_bit}
+use Rattle.instructions.specs.Private.Loops.{TurnedQuietly, Room, RoomFor, period_bits, cursor_at, woven_at, woven_shape, ReadyBits, span_r, span_s, Chunk, spread_of, periods_of}
 use Rattle.instructions.proofs.Agree.{resume}
-use Rattle.instructions.proofs.Weaving.{along, within, run_by, near}
+use Rattle.instructions.proofs.Weaving.{along, within, near, second_along, run_by}
 
 -- ---- numbers side by side
 
@@ -32,9 +34,6 @@ beside a b n k ha hb =
     let le : (a + 1) * 2 ^ k ≤ 2 ^ n * 2 ^ k = mul-le-mul_right (2 ^ k) (omega arith) in
     let e : (a + 1) * 2 ^ k ≡ a * 2 ^ k + 1 * 2 ^ k = add-mul a 1 (2 ^ k) in
     rw (pow-add 2 n k) (omega arith)
-
-pub whole_power : (n : ℕ) → n < 64 → 1 * 2 ^ n % 2 ^ 64 ≡ 2 ^ n
-whole_power n h = rw one-mul (mod-eq_of_lt (pow-lt {j = 64} h))
 
 double : (a b : ℕ) → a * 2 ^ suc b ≡ a * 2 ^ b * 2 ^ 1
 double a b =
@@ -85,25 +84,25 @@ gathered_run L g x i (fixed v) zero e l = sym l
 gathered_run L g x i (fixed v) (suc n) e l =
     ap₂ (λ (y z : ℕ). y * 2 ^ 1 + z) (gathered_run L g x i (fixed v) n (λ j h. e j (omega arith)) l) (ap (λ (q : Place). value_at L 1 q x) (e n (omega arith))) ∙ omega arith
 
-woven_lt : (L : ℕ) (d : Sides) (p : Period) (x i : ℕ) → value_at L 1 (woven_at d p i) x < 2
-woven_lt L d p x i = go (ltb (cursor_at d p i).place p.head) d.some
+woven_lt : (L : ℕ) (w : Weave) (x i : ℕ) → value_at L 1 (woven_at w i) x < 2
+woven_lt L w x i = go (ltb (cursor_at w i).place w.period.head) w.s
   where
-    go : (t s : Bool) → value_at L 1 (cond t (bits ((cursor_at d p i).r + (cursor_at d p i).place)) (cond s (bits ((cursor_at d p i).s + ((cursor_at d p i).place - p.skipped))) (fixed 0))) x < 2
-    go true s = field_lt L _ 1 x
-    go false true = field_lt L _ 1 x
-    go false false = omega arith
+    go : (t : Bool) (o : Option ℕ) → value_at L 1 (cond t (bits ((cursor_at w i).r + (cursor_at w i).place)) (second_bit o ((cursor_at w i).s + ((cursor_at w i).place - w.period.head)))) x < 2
+    go true o = field_lt L _ 1 x
+    go false (Some b) = field_lt L _ 1 x
+    go false None = omega arith
 
 -- n items side by side, stored at once, are the items in turn
-pub chunk_turn : (m₀ m m' : List ℕ) (d : Sides) (p : Period) (c N from done n v : ℕ) → ReadyBits m₀ d p c N → from + done + n ≤ N → length m ≡ length m₀
-    → v ≡ gathered (size m) (woven_at d p) (num m) (from + done) n → Kept m (c + (from + done)) n v m'
-    → (f : ℕ) → worked (num m) f ≡ turns (taken_shape c 1 (woven_at d p)) (size m₀) from done (worked (num m₀) f)
-    → worked (num m') f ≡ turns (taken_shape c 1 (woven_at d p)) (size m₀) from (done + n) (worked (num m₀) f)
-chunk_turn m₀ m m' d p c N from done n v h le len ev kp f inv =
+pub chunk_turn : (m₀ m m' : List ℕ) (w : Weave) (N from done n v : ℕ) → ReadyBits m₀ w N → from + done + n ≤ N → length m ≡ length m₀
+    → v ≡ gathered (size m) (woven_at w) (num m) (from + done) n → Kept m (w.to + (from + done)) n v m'
+    → (f : ℕ) → worked (num m) f ≡ turns (woven_shape w) (size m₀) from done (worked (num m₀) f)
+    → worked (num m') f ≡ turns (woven_shape w) (size m₀) from (done + n) (worked (num m₀) f)
+chunk_turn m₀ m m' w N from done n v h le len ev kp f inv =
     let es : size m ≡ size m₀ = ap (λ (k : ℕ). 8 * k) len in
-    ap (λ (y : ℕ). worked y f) (kp.holds ∙ ap₂ (λ (L q : ℕ). store L (c + (from + done)) n q (num m)) es (ev ∙ ap (λ (L : ℕ). gathered L (woven_at d p) (num m) (from + done) n) es))
-    ∙ sym (run_by L c i x f g n (λ j. gathered L g x i j) refl (λ j. gathered_lt L g x i (woven_lt L d p x) j) (omega (arith, h.upto_c)) (λ j hj. woven_lt L d p _ (i + j)) one)
-    ∙ ap (turns (taken_shape c 1 g) L i n) inv
-    ∙ resume (taken_shape c 1 g) L from done n (worked (num m₀) f)
+    ap (λ (y : ℕ). worked y f) (kp.holds ∙ ap₂ (λ (L q : ℕ). store L (w.to + (from + done)) n q (num m)) es (ev ∙ ap (λ (L : ℕ). gathered L (woven_at w) (num m) (from + done) n) es))
+    ∙ sym (run_by L w.to i x f g n (λ j. gathered L g x i j) refl (λ j. gathered_lt L g x i (woven_lt L w x) j) (omega (arith, h.upto_c)) (λ j hj. woven_lt L w _ (i + j)) one)
+    ∙ ap (turns (woven_shape w) L i n) inv
+    ∙ resume (woven_shape w) L from done n (worked (num m₀) f)
   where
     L : ℕ
     L = 8 * length m₀
@@ -115,23 +114,23 @@ chunk_turn m₀ m m' d p c N from done n v h le len ev kp f inv =
     x = num m
 
     g : ℕ → Place
-    g = woven_at d p
+    g = woven_at w
 
-    kept : (j : ℕ) → j < n → (q : Place) → woven_at d p (from + done + j) ≡ q
-        → value_at (8 * length m₀) 1 q (store (8 * length m₀) (c + (from + done)) j (gathered (8 * length m₀) (woven_at d p) (num m) (from + done) j) (num m)) ≡ value_at (8 * length m₀) 1 q (num m)
+    kept : (j : ℕ) → j < n → (q : Place) → woven_at w (from + done + j) ≡ q
+        → value_at (8 * length m₀) 1 q (store (8 * length m₀) (w.to + (from + done)) j (gathered (8 * length m₀) (woven_at w) (num m) (from + done) j) (num m)) ≡ value_at (8 * length m₀) 1 q (num m)
     kept j hj (bits a) e =
         let z = h.clear (from + done + j) a (omega arith) e in
-        field_other (8 * length m₀) (c + (from + done)) j (gathered (8 * length m₀) (woven_at d p) (num m) (from + done) j) a 1 (num m)
-        (gathered_lt (8 * length m₀) (woven_at d p) (num m) (from + done) (woven_lt (8 * length m₀) d p (num m)) j) (omega (arith, h.upto_c)) (omega (arith, z.0))
+        field_other (8 * length m₀) (w.to + (from + done)) j (gathered (8 * length m₀) (woven_at w) (num m) (from + done) j) a 1 (num m)
+        (gathered_lt (8 * length m₀) (woven_at w) (num m) (from + done) (woven_lt (8 * length m₀) w (num m)) j) (omega (arith, h.upto_c)) (omega (arith, z.0))
         (⊎_elim (λ l. inl (omega arith)) (λ l. inr (omega arith)) z.1)
     kept j hj (fixed v) e = refl
 
     one : (j : ℕ) → j < n
-        → gathered (8 * length m₀) (woven_at d p) (num m) (from + done) j * 2 ^ 1 + value_at (8 * length m₀) 1 (woven_at d p (from + done + j)) (store (8 * length m₀) (c + (from + done)) j (gathered (8 * length m₀) (woven_at d p) (num m) (from + done) j) (num m))
-        ≡ gathered (8 * length m₀) (woven_at d p) (num m) (from + done) (j + 1)
+        → gathered (8 * length m₀) (woven_at w) (num m) (from + done) j * 2 ^ 1 + value_at (8 * length m₀) 1 (woven_at w (from + done + j)) (store (8 * length m₀) (w.to + (from + done)) j (gathered (8 * length m₀) (woven_at w) (num m) (from + done) j) (num m))
+        ≡ gathered (8 * length m₀) (woven_at w) (num m) (from + done) (j + 1)
     one j hj =
         let e : j + 1 ≡ suc j = omega arith in
-        rw e (ap (λ (y : ℕ). gathered (8 * length m₀) (woven_at d p) (num m) (from + done) j * 2 ^ 1 + y) (kept j hj (woven_at d p (from + done + j)) refl))
+        rw e (ap (λ (y : ℕ). gathered (8 * length m₀) (woven_at w) (num m) (from + done) j * 2 ^ 1 + y) (kept j hj (woven_at w (from + done + j)) refl))
 
 -- ---- pieces spread out
 
@@ -152,14 +151,15 @@ spread_short x step n gap t (suc k) h =
     rw e at (beside (spread_of x step n gap t (suc k)) (get ((t - suc (suc k)) * step) n x) (k * gap + n) gap (spread_short x step n gap t k h) (lt_of_lt_of_le (get_lt ((t - suc (suc k)) * step) n x) (pow_mono h)))
 
 -- one piece more
-pub spread_more : (x step n gap t k v b : ℕ) → n ≤ gap → (k + 1) * gap ≤ 64 → v ≡ spread_of x step n gap t k → b ≡ get ((t - (k + 1)) * step) n x
+pub spread_more : (x step n gap t k v b : ℕ) → n ≤ gap → k < t → t * gap ≤ 64 → v ≡ spread_of x step n gap t k → b ≡ get ((t - (k + 1)) * step) n x
     → (v * 2 ^ gap % 2 ^ 64 + b ≡ spread_of x step n gap t (k + 1)) × (v * 2 ^ gap % 2 ^ 64 + b < 2 ^ 64)
-spread_more x step n gap t k v b h le ev eb =
+spread_more x step n gap t k v b h lt fits ev eb =
     let e : k + 1 ≡ suc k = omega arith in
+    let le : (k + 1) * gap ≤ 64 = omega (arith, mul-le-mul_right gap (let z : k + 1 ≤ t = omega arith in z)) in
     let s : (k + 1) * gap ≡ k * gap + 1 * gap = add-mul k 1 gap in
-    let lt : v < 2 ^ (k * gap) = rw ev (spread_lt x step n gap t k h) in
+    let low : v < 2 ^ (k * gap) = rw ev (spread_lt x step n gap t k h) in
     let q : v * 2 ^ gap % 2 ^ 64 + b ≡ spread_of x step n gap t (k + 1) =
-    rw e (ap₂ (λ (y z : ℕ). y + z) (shl_exact {a = v} (k * gap) gap 64 lt (omega arith) ∙ ap (λ (y : ℕ). y * 2 ^ gap) ev) (rw e at eb)) in
+    rw e (ap₂ (λ (y z : ℕ). y + z) (shl_exact {a = v} (k * gap) gap 64 low (omega arith) ∙ ap (λ (y : ℕ). y * 2 ^ gap) ev) (rw e at eb)) in
     (q, rw q (lt_of_lt_of_le (spread_lt x step n gap t (k + 1) h) (pow_mono le)))
 
 pub steps_fit : (t k step : ℕ) → k < t → t * step ≤ 64 → (t - (k + 1)) * step < 64
@@ -200,249 +200,253 @@ masked x o step n gap t h es eo =
     ap₂ bit_and (sym (ap (λ (q : ℕ). x / 2 ^ q) z ∙ div-one x)) eo ∙ s ∙ ap (λ (q : ℕ). spread_of x q n gap t t) (sym es)
 
 -- a piece of a window is a field of memory
-piece_is : (L x base step n o t k : ℕ) → k < t → base + ((t - 1) * step + (o + n)) ≤ L
-    → get ((t - suc k) * step) n (field L base ((t - 1) * step + (o + n)) x) ≡ field L (base + (k * step + o)) n x
-piece_is L x base step n o t k lt le =
+piece_is : (L x base step n t k : ℕ) → k < t → base + ((t - 1) * step + n) ≤ L → get ((t - suc k) * step) n (field L base ((t - 1) * step + n) x) ≡ field L (base + k * step) n x
+piece_is L x base step n t k lt le =
     let e₁ : (t - suc k) + k ≡ t - 1 = omega arith in
     let e₂ : (t - suc k + k) * step ≡ (t - suc k) * step + k * step = add-mul (t - suc k) k step in
     let e₃ : (t - 1) * step ≡ (t - suc k) * step + k * step = rw e₁ at e₂ in
-    let e : (t - suc k) * step ≡ ((t - 1) * step + (o + n)) - ((k * step + o) + n) = omega arith in
-    rw e (field_field L base ((t - 1) * step + (o + n)) (k * step + o) n x le (omega arith))
+    let e : (t - suc k) * step ≡ ((t - 1) * step + n) - (k * step + n) = omega arith in
+    rw e (field_field L base ((t - 1) * step + n) (k * step) n x le (omega arith))
+
+get_none : (r n : ℕ) → get r n 0 ≡ 0
+get_none r n = ap (λ (y : ℕ). y % 2 ^ n) (zero-div (2 ^ r)) ∙ zero-mod (2 ^ n)
+
+pub spread_none : (step n gap t k : ℕ) → spread_of 0 step n gap t k ≡ 0
+spread_none step n gap t zero = refl
+spread_none step n gap t (suc k) = rw (spread_none step n gap t k, get_none ((t - suc k) * step) n) (omega (arith, zero-mul (2 ^ gap)))
 
 -- ---- periods
 
--- where R's and S's parts of the period of item i begin
-abbrev pub r_at : Sides → Period → ℕ → ℕ
-r_at d p i = d.r + i / p.bits * p.first
+-- how far past the beginnings of R and of S the head and the tail of the period of item i are
+abbrev pub r_at : Period → ℕ → ℕ
+r_at p i = i / period_bits p * p.first
 
-abbrev pub s_at : Sides → Period → ℕ → ℕ
-s_at d p i = d.s + i / p.bits * p.second
+abbrev pub s_at : Period → ℕ → ℕ
+s_at p i = p.over + i / period_bits p * p.second
 
 -- the beginning of the k-th period after i
-pub later : (d : Sides) (p : Period) (i k : ℕ) → 0 < p.bits → i % p.bits ≡ 0
-    → ((i + k * p.bits) % p.bits ≡ 0) × (r_at d p (i + k * p.bits) ≡ r_at d p i + k * p.first) × (s_at d p (i + k * p.bits) ≡ s_at d p i + k * p.second)
-later d p i k hp hi =
-    let q : (i + k * p.bits) / p.bits ≡ i / p.bits + k = add-mul-div_right i k hp in
-    (add-mul-mod_self_right i k p.bits ∙ hi, rw q (omega (arith, add-mul (i / p.bits) k p.first)), rw q (omega (arith, add-mul (i / p.bits) k p.second)))
+pub later : (p : Period) (i k : ℕ) → 0 < period_bits p → i % period_bits p ≡ 0
+    → ((i + k * period_bits p) % period_bits p ≡ 0) × (r_at p (i + k * period_bits p) ≡ r_at p i + k * p.first) × (s_at p (i + k * period_bits p) ≡ s_at p i + k * p.second)
+later p i k hp hi =
+    let q : (i + k * period_bits p) / period_bits p ≡ i / period_bits p + k = add-mul-div_right i k hp in
+    (add-mul-mod_self_right i k (period_bits p) ∙ hi, rw q (omega (arith, add-mul (i / period_bits p) k p.first)), rw q (omega (arith, add-mul (i / period_bits p) k p.second)))
 
--- S's part of a period
-abbrev tail_at : Sides → Period → ℕ → Place
-tail_at d p i = cond d.some (bits (s_at d p i + (p.head - p.skipped))) (fixed 0)
-
-module _ (d : Sides) (p : Period) (i : ℕ) (hp : 0 < p.bits) (g : Paced p) (hi : i % p.bits ≡ 0) where
-  head_place : (j : ℕ) → j < p.head → woven_at d p (i + j) ≡ bits (r_at d p i + j)
+module _ (w : Weave) (i : ℕ) (hp : 0 < period_bits w.period) (hi : i % period_bits w.period ≡ 0) where
+  head_place : (j : ℕ) → j < w.period.head → woven_at w (i + j) ≡ bits (w.r + r_at w.period i + j)
   unfolding cursor_at
   head_place j hj =
-      let le = g.part_r in
-      let k = within i p.bits j hp (omega arith) in
-      let e : (i + j) % p.bits ≡ j = omega (arith, k.1) in
-      rw (k.0, e, lt-ltb j p.head hj)
+      let k = within i (period_bits w.period) j (omega arith) in
+      let e : (i + j) % period_bits w.period ≡ j = omega (arith, k.1) in
+      rw (k.0, e, lt-ltb j w.period.head hj) refl
 
-  tail_place : (j : ℕ) → j < p.bits - p.head → woven_at d p (i + p.head + j) ≡ along (tail_at d p i) j
+  tail_place : (j : ℕ) → j < w.period.tail → woven_at w (i + w.period.head + j) ≡ along (second_bit w.s (s_at w.period i)) j
   unfolding cursor_at
   tail_place j hj =
-      let le = g.skips in
-      let k = within i p.bits (p.head + j) hp (omega arith) in
-      let e : i + p.head + j ≡ i + (p.head + j) = omega arith in
-      let e' : (i + (p.head + j)) % p.bits ≡ p.head + j = omega (arith, k.1) in
-      rw (e, k.0, e', le-ltb (p.head + j) p.head (omega arith)) (go d.some)
-    where
-      go : (b : Bool) → cond b (bits (d.s + i / p.bits * p.second + (p.head + j - p.skipped))) (fixed 0) ≡ along (cond b (bits (d.s + i / p.bits * p.second + (p.head - p.skipped))) (fixed 0)) j
-      go true = let le = g.skips in ap bits (omega arith)
-      go false = refl
+      let k = within i (period_bits w.period) (w.period.head + j) (omega arith) in
+      let e : i + w.period.head + j ≡ i + (w.period.head + j) = omega arith in
+      let e' : (i + (w.period.head + j)) % period_bits w.period ≡ w.period.head + j = omega (arith, k.1) in
+      rw (e, k.0, e', le-ltb (w.period.head + j) w.period.head (omega arith)) (second_along w.s _ _ j (omega arith))
 
 -- the pieces of R and those of S do not run into each other
-pub joint_lt : (x y f g head gap t k : ℕ) → head ≤ gap → spread_of x f head gap t k * 2 ^ (gap - head) + spread_of y g (gap - head) gap t k < 2 ^ (k * gap)
-joint_lt x y f g head gap t zero le =
-    let e : 0 * 2 ^ (gap - head) + 0 ≡ 0 = omega arith in
-    rw e (pow_pos (0 * gap))
-joint_lt x y f g head gap t (suc k) le =
-    let e : k * gap + gap ≡ suc k * gap = sym (suc-mul k gap) in
-    let e' : head + (gap - head) ≡ gap = omega arith in
+pub joint_lt : (x y f g head tail t k : ℕ) → spread_of x f head (head + tail) t k * 2 ^ tail + spread_of y g tail (head + tail) t k < 2 ^ (k * (head + tail))
+joint_lt x y f g head tail t zero =
+    let e : 0 * 2 ^ tail + 0 ≡ 0 = omega arith in
+    rw e (pow_pos (0 * (head + tail)))
+joint_lt x y f g head tail t (suc k) =
+    let e : k * (head + tail) + (head + tail) ≡ suc k * (head + tail) = sym (suc-mul k (head + tail)) in
     let a : ℕ = get ((t - suc k) * f) head x in
-    let b : ℕ = get ((t - suc k) * g) (gap - head) y in
-    let low : a * 2 ^ (gap - head) + b < 2 ^ gap = rw e' at (beside a b head (gap - head) (get_lt ((t - suc k) * f) head x) (get_lt ((t - suc k) * g) (gap - head) y)) in
-    let z = beside (spread_of x f head gap t k * 2 ^ (gap - head) + spread_of y g (gap - head) gap t k) (a * 2 ^ (gap - head) + b) (k * gap) gap (joint_lt x y f g head gap t k le) low in
-    rw (← regroup (spread_of x f head gap t k) (spread_of y g (gap - head) gap t k) a b (2 ^ (gap - head)) (2 ^ gap), ← e) z
+    let b : ℕ = get ((t - suc k) * g) tail y in
+    let low : a * 2 ^ tail + b < 2 ^ (head + tail) = beside a b head tail (get_lt ((t - suc k) * f) head x) (get_lt ((t - suc k) * g) tail y) in
+    let z = beside (spread_of x f head (head + tail) t k * 2 ^ tail + spread_of y g tail (head + tail) t k) (a * 2 ^ tail + b) (k * (head + tail)) (head + tail) (joint_lt x y f g head tail t k) low in
+    rw (← regroup (spread_of x f head (head + tail) t k) (spread_of y g tail (head + tail) t k) a b (2 ^ tail) (2 ^ (head + tail)), ← e) z
 
-module _ (m₀ : List ℕ) (d : Sides) (p : Period) (c N : ℕ) (h : ReadyBits m₀ d p c N) (g : Paced p) (i : ℕ) (hi : i % p.bits ≡ 0) (le : i + p.bits ≤ N) where
-  head_lies : 0 < p.head → r_at d p i + p.head ≤ size m₀
+module _ (m₀ : List ℕ) (w : Weave) (N : ℕ) (h : ReadyBits m₀ w N) (i : ℕ) (hi : i % period_bits w.period ≡ 0) (le : i + period_bits w.period ≤ N) where
+  head_lies : 0 < w.period.head → w.r + r_at w.period i + w.period.head ≤ size m₀
   head_lies l =
-      let z = h.clear (i + (p.head - 1)) (r_at d p i + (p.head - 1)) (omega (arith, g.part_r)) (head_place d p i h.some_bits g hi (p.head - 1) (omega arith)) in
+      let z = h.clear (i + (w.period.head - 1)) (w.r + r_at w.period i + (w.period.head - 1)) (omega arith) (head_place w i h.some_bits hi (w.period.head - 1) (omega arith)) in
       omega (arith, z.0)
 
-  tail_lies : Lies (size m₀) (p.bits - p.head) (tail_at d p i)
-  tail_lies = go d.some refl
+  tail_lies : Lies (size m₀) w.period.tail (second_bit w.s (s_at w.period i))
+  tail_lies = go w.s refl
     where
-      go : (b : Bool) → d.some ≡ b → Lies (size m₀) (p.bits - p.head) (cond b (bits (s_at d p i + (p.head - p.skipped))) (fixed 0))
-      go true e = λ l.
-          let j : ℕ = p.bits - p.head - 1 in
-          let z = h.clear (i + p.head + j) (s_at d p i + (p.head - p.skipped) + j) (omega arith)
-          (tail_place d p i h.some_bits g hi j (omega arith) ∙ ap (λ (b : Bool). along (cond b (bits (s_at d p i + (p.head - p.skipped))) (fixed 0)) j) e) in
+      go : (o : Option ℕ) → w.s ≡ o → Lies (size m₀) w.period.tail (second_bit o (s_at w.period i))
+      go (Some b) e = λ l.
+          let j : ℕ = w.period.tail - 1 in
+          let z = h.clear (i + w.period.head + j) (b + s_at w.period i + j) (omega arith)
+          (tail_place w i h.some_bits hi j (omega arith) ∙ ap (λ (o : Option ℕ). along (second_bit o (s_at w.period i)) j) e) in
           omega (arith, z.0)
-      go false e = refl
+      go None e = refl
 
-  period_value : (x : ℕ) → gathered (size m₀) (woven_at d p) x i p.bits ≡ field (size m₀) (r_at d p i) p.head x * 2 ^ (p.bits - p.head) + value_at (size m₀) (p.bits - p.head) (tail_at d p i) x
+  period_value : (x : ℕ) → gathered (size m₀) (woven_at w) x i (period_bits w.period) ≡ field (size m₀) (w.r + r_at w.period i) w.period.head x * 2 ^ w.period.tail + value_at (size m₀) w.period.tail (second_bit w.s (s_at w.period i)) x
   period_value x =
-      let e : p.head + (p.bits - p.head) ≡ p.bits = omega (arith, g.part_r) in
-      ap (gathered (size m₀) (woven_at d p) x i) (sym e)
-      ∙ gathered_join (size m₀) (woven_at d p) x i p.head (p.bits - p.head)
-      ∙ ap₂ (λ (y z : ℕ). y * 2 ^ (p.bits - p.head) + z)
-      (gathered_run (size m₀) (woven_at d p) x i (bits (r_at d p i)) p.head (head_place d p i h.some_bits g hi) head_lies)
-      (gathered_run (size m₀) (woven_at d p) x (i + p.head) (tail_at d p i) (p.bits - p.head) (tail_place d p i h.some_bits g hi) tail_lies)
+      gathered_join (size m₀) (woven_at w) x i w.period.head w.period.tail
+      ∙ ap₂ (λ (y z : ℕ). y * 2 ^ w.period.tail + z)
+      (gathered_run (size m₀) (woven_at w) x i (bits (w.r + r_at w.period i)) w.period.head (head_place w i h.some_bits hi) head_lies)
+      (gathered_run (size m₀) (woven_at w) x (i + w.period.head) (second_bit w.s (s_at w.period i)) w.period.tail (tail_place w i h.some_bits hi) tail_lies)
 
-module _ (m₀ : List ℕ) (d : Sides) (p : Period) (c N t : ℕ) (h : ReadyBits m₀ d p c N) (g : Paced p) (u : Chunk p t) (i : ℕ) (hi : i % p.bits ≡ 0) (le : i + t * p.bits ≤ N) where
-  inner : (k : ℕ) → k < t → i + k * p.bits + p.bits ≤ N
-  inner k lt = omega (arith, mul-le-mul_right p.bits (let z : k + 1 ≤ t = omega arith in z), add-mul k 1 p.bits)
+module _ (m₀ : List ℕ) (w : Weave) (N t : ℕ) (h : ReadyBits m₀ w N) (u : Chunk w.period t) (i : ℕ) (hi : i % period_bits w.period ≡ 0) (le : i + t * period_bits w.period ≤ N) where
+  inner : (k : ℕ) → k < t → i + k * period_bits w.period + period_bits w.period ≤ N
+  inner k lt = omega (arith, mul-le-mul_right (period_bits w.period) (let z : k + 1 ≤ t = omega arith in z), add-mul k 1 (period_bits w.period))
 
-  pub reach_r : r_at d p i + span_r p t ≤ size m₀
+  pub reach_r : w.r + r_at w.period i + span_r w.period t ≤ size m₀
   reach_r =
-      let z = later d p i (t - 1) h.some_bits hi in
-      omega (arith, z.1, head_lies m₀ d p c N h g (i + (t - 1) * p.bits) z.0 (inner (t - 1) (omega (arith, u.some))) u.part)
+      let z = later w.period i (t - 1) h.some_bits hi in
+      omega (arith, z.1, head_lies m₀ w N h (i + (t - 1) * period_bits w.period) z.0 (inner (t - 1) (omega (arith, u.some))) u.part)
 
-  pub reach_s : both_in d.some p ≡ true → s_at d p i + span_s p t ≤ size m₀
-  reach_s = go (ltb p.head p.bits) d.some refl refl
-    where
-      go : (a b : Bool) → ltb p.head p.bits ≡ a → d.some ≡ b → cond a b false ≡ true → s_at d p i + span_s p t ≤ size m₀
-      go true true ea eb e =
-          let lt : p.head < p.bits = ltb-true p.head p.bits ea in
-          let z = later d p i (t - 1) h.some_bits hi in
-          let l = rw eb at (tail_lies m₀ d p c N h g (i + (t - 1) * p.bits) z.0 (inner (t - 1) (omega (arith, u.some)))) in
-          omega (arith, z.2, g.skips, l (omega arith))
-      go true false ea eb e = let z : ◌≡◌ {A = ℕ} 0 1 = cc in absurd (omega arith)
-      go false b ea eb e = let z : ◌≡◌ {A = ℕ} 0 1 = cc in absurd (omega arith)
+  pub reach_s : (b : ℕ) → w.s ≡ Some b → b + s_at w.period i + span_s w.period t ≤ size m₀
+  reach_s b e =
+      let z = later w.period i (t - 1) h.some_bits hi in
+      let l = rw e at (tail_lies m₀ w N h (i + (t - 1) * period_bits w.period) z.0 (inner (t - 1) (omega (arith, u.some)))) in
+      omega (arith, z.2, l (h.some_tail b e))
 
-  abbrev pub tails : ℕ → ℕ → ℕ
-  tails x k = spread_of (field (size m₀) (s_at d p i) (span_s p t) x) p.second (p.bits - p.head) p.bits t k
+  -- the pieces of the first k heads, and of the first k tails
+  abbrev heads_to : ℕ → ℕ → ℕ
+  heads_to x k = spread_of (field (size m₀) (w.r + r_at w.period i) (span_r w.period t) x) w.period.first w.period.head (period_bits w.period) t k
 
-  head_more : (x k : ℕ) → k < t → field (size m₀) (r_at d p (i + k * p.bits)) p.head x ≡ get ((t - suc k) * p.first) p.head (field (size m₀) (r_at d p i) (span_r p t) x)
+  abbrev tails_to : ℕ → ℕ → ℕ
+  tails_to x k = spread_of (value_at (size m₀) (span_s w.period t) (second_bit w.s (s_at w.period i)) x) w.period.second w.period.tail (period_bits w.period) t k
+
+  head_more : (x k : ℕ) → k < t → field (size m₀) (w.r + r_at w.period (i + k * period_bits w.period)) w.period.head x ≡ get ((t - suc k) * w.period.first) w.period.head (field (size m₀) (w.r + r_at w.period i) (span_r w.period t) x)
   head_more x k lt =
-      let z = later d p i k h.some_bits hi in
-      let e : 0 + p.head ≡ p.head = omega arith in
-      let e' : k * p.first + 0 ≡ k * p.first = omega arith in
-      rw z.1 (sym (rw (e, e') at (piece_is (size m₀) x (r_at d p i) p.first p.head 0 t k lt (rw e reach_r))))
+      let z = later w.period i k h.some_bits hi in
+      let e : w.r + (r_at w.period i + k * w.period.first) ≡ w.r + r_at w.period i + k * w.period.first = omega arith in
+      rw (z.1, e) (sym (piece_is (size m₀) x (w.r + r_at w.period i) w.period.first w.period.head t k lt reach_r))
 
   tail_more : (x k : ℕ) → k < t
-      → cond (both_in d.some p) (tails x k) 0 * 2 ^ p.bits + value_at (size m₀) (p.bits - p.head) (tail_at d p (i + k * p.bits)) x ≡ cond (both_in d.some p) (tails x (suc k)) 0
-  tail_more x k lt = go (ltb p.head p.bits) d.some refl refl
+      → value_at (size m₀) w.period.tail (second_bit w.s (s_at w.period (i + k * period_bits w.period))) x
+      ≡ get ((t - suc k) * w.period.second) w.period.tail (value_at (size m₀) (span_s w.period t) (second_bit w.s (s_at w.period i)) x)
+  tail_more x k lt = go w.s refl
     where
-      go : (a b : Bool) → ltb p.head p.bits ≡ a → d.some ≡ b
-          → cond (cond a b false) (tails x k) 0 * 2 ^ p.bits + value_at (size m₀) (p.bits - p.head) (cond b (bits (s_at d p (i + k * p.bits) + (p.head - p.skipped))) (fixed 0)) x
-          ≡ cond (cond a b false) (tails x (suc k)) 0
-      go true true ea eb =
-          let z = later d p i k h.some_bits hi in
-          let s = reach_s (rw (ea, eb) refl) in
-          let e : (p.head - p.skipped) + (p.bits - p.head) ≡ p.bits - p.skipped = omega (arith, g.skips, g.part_r) in
-          let e' : s_at d p i + k * p.second + (p.head - p.skipped) ≡ s_at d p i + (k * p.second + (p.head - p.skipped)) = omega arith in
-          ap (λ (y : ℕ). tails x k * 2 ^ p.bits + y) (rw (z.2, e') (sym (rw e at (piece_is (size m₀) x (s_at d p i) p.second (p.bits - p.head) (p.head - p.skipped) t k lt (rw e s)))))
-      go true false ea eb = omega arith
-      go false false ea eb = omega arith
-      go false true ea eb =
-          let l = ltb-false p.head p.bits ea in
-          let e : p.bits - p.head ≡ 0 = omega arith in
-          rw e (omega (arith, field_none (size m₀) (s_at d p (i + k * p.bits) + (p.head - p.skipped)) x))
+      go : (o : Option ℕ) → w.s ≡ o
+          → value_at (size m₀) w.period.tail (second_bit o (s_at w.period (i + k * period_bits w.period))) x
+          ≡ get ((t - suc k) * w.period.second) w.period.tail (value_at (size m₀) (span_s w.period t) (second_bit o (s_at w.period i)) x)
+      go (Some b) eb =
+          let z = later w.period i k h.some_bits hi in
+          let e : b + (s_at w.period i + k * w.period.second) ≡ b + s_at w.period i + k * w.period.second = omega arith in
+          rw (z.2, e) (sym (piece_is (size m₀) x (b + s_at w.period i) w.period.second w.period.tail t k lt (reach_s b eb)))
+      go None eb = sym (get_none ((t - suc k) * w.period.second) w.period.tail)
 
-  pub periods_are : (x k : ℕ) → k ≤ t
-      → gathered (size m₀) (woven_at d p) x i (k * p.bits)
-      ≡ spread_of (field (size m₀) (r_at d p i) (span_r p t) x) p.first p.head p.bits t k * 2 ^ (p.bits - p.head) + cond (both_in d.some p) (tails x k) 0
-  periods_are x zero l = let e : 0 * p.bits ≡ 0 = omega arith in rw e (none (both_in d.some p))
-    where
-      none : (b : Bool) → 0 ≡ 0 * 2 ^ (p.bits - p.head) + cond b 0 0
-      none true = omega arith
-      none false = omega arith
+  pub periods_are : (x k : ℕ) → k ≤ t → gathered (size m₀) (woven_at w) x i (k * period_bits w.period) ≡ heads_to x k * 2 ^ w.period.tail + tails_to x k
+  periods_are x zero l = let e : 0 * period_bits w.period ≡ 0 = omega arith in rw e (omega arith)
   periods_are x (suc k) l =
-      let z = later d p i k h.some_bits hi in
-      let e : suc k * p.bits ≡ k * p.bits + p.bits = suc-mul k p.bits in
-      ap (gathered (size m₀) (woven_at d p) x i) e
-      ∙ gathered_join (size m₀) (woven_at d p) x i (k * p.bits) p.bits
-      ∙ ap₂ (λ (y w : ℕ). y * 2 ^ p.bits + w) (periods_are x k (omega arith)) (period_value m₀ d p c N h g (i + k * p.bits) z.0 (inner k (omega arith)) x)
-      ∙ regroup _ _ _ _ (2 ^ (p.bits - p.head)) (2 ^ p.bits)
-      ∙ ap₂ (λ (y w : ℕ). (spread_of (field (size m₀) (r_at d p i) (span_r p t) x) p.first p.head p.bits t k * 2 ^ p.bits + y) * 2 ^ (p.bits - p.head) + w) (head_more x k (omega arith)) (tail_more x k (omega arith))
+      let z = later w.period i k h.some_bits hi in
+      let e : suc k * period_bits w.period ≡ k * period_bits w.period + period_bits w.period = suc-mul k (period_bits w.period) in
+      ap (gathered (size m₀) (woven_at w) x i) e
+      ∙ gathered_join (size m₀) (woven_at w) x i (k * period_bits w.period) (period_bits w.period)
+      ∙ ap₂ (λ (y v : ℕ). y * 2 ^ period_bits w.period + v) (periods_are x k (omega arith)) (period_value m₀ w N h (i + k * period_bits w.period) z.0 (inner k (omega arith)) x)
+      ∙ regroup _ _ _ _ (2 ^ w.period.tail) (2 ^ period_bits w.period)
+      ∙ ap₂ (λ (y v : ℕ). (heads_to x k * 2 ^ period_bits w.period + y) * 2 ^ w.period.tail + (tails_to x k * 2 ^ period_bits w.period + v)) (head_more x k (omega arith)) (tail_more x k (omega arith))
 
 -- ---- what the functions compute
 
 -- the shift loses nothing
-heads_is : (x f head gap t v : ℕ) → head ≤ gap → 0 < t → t * gap ≤ 64 → v ≡ spread_of x f head gap t t → v * 2 ^ (gap - head) % 2 ^ 64 ≡ spread_of x f head gap t t * 2 ^ (gap - head)
-heads_is x f head gap t v le ht fits ev =
+heads_is : (x f head tail t v : ℕ) → 0 < t → t * (head + tail) ≤ 64 → v ≡ spread_of x f head (head + tail) t t → v * 2 ^ tail % 2 ^ 64 ≡ spread_of x f head (head + tail) t t * 2 ^ tail
+heads_is x f head tail t v ht fits ev =
     let e : suc (t - 1) ≡ t = omega arith in
-    let s : t * gap ≡ (t - 1) * gap + gap = ap (λ (k : ℕ). k * gap) (sym e) ∙ suc-mul (t - 1) gap in
-    let lt : spread_of x f head gap t t < 2 ^ ((t - 1) * gap + head) = subst (λ (k : ℕ). spread_of x f head gap t k < 2 ^ ((t - 1) * gap + head)) e (spread_short x f head gap t (t - 1) le) in
-    rw ev (shl_exact {a = spread_of x f head gap t t} ((t - 1) * gap + head) (gap - head) 64 lt (omega arith))
+    let s : t * (head + tail) ≡ (t - 1) * (head + tail) + (head + tail) = ap (λ (k : ℕ). k * (head + tail)) (sym e) ∙ suc-mul (t - 1) (head + tail) in
+    let lt : spread_of x f head (head + tail) t t < 2 ^ ((t - 1) * (head + tail) + head) = subst (λ (k : ℕ). spread_of x f head (head + tail) t k < 2 ^ ((t - 1) * (head + tail) + head)) e (spread_short x f head (head + tail) t (t - 1) (omega arith)) in
+    rw ev (shl_exact {a = spread_of x f head (head + tail) t t} ((t - 1) * (head + tail) + head) tail 64 lt (omega arith))
 
-module _ (L : ℕ) (both : Bool) (p : Period) (r s t z x v : ℕ) (g : Paced p) (u : Chunk p t) (ex : x ≡ field L r (span_r p t) z) (ev : v ≡ spread_of x p.first p.head p.bits t t) where
-  heads : v * 2 ^ (p.bits - p.head) % 2 ^ 64 ≡ spread_of (field L r (span_r p t) z) p.first p.head p.bits t t * 2 ^ (p.bits - p.head)
-  heads = heads_is x p.first p.head p.bits t v g.part_r u.some u.fits ev ∙ ap (λ (y : ℕ). spread_of y p.first p.head p.bits t t * 2 ^ (p.bits - p.head)) ex
+module _ (L : ℕ) (w : Weave) (r s t z x v : ℕ) (u : Chunk w.period t) (ex : x ≡ field L r (span_r w.period t) z) (ev : v ≡ spread_of x w.period.first w.period.head (period_bits w.period) t t) where
+  heads : v * 2 ^ w.period.tail % 2 ^ 64 ≡ spread_of (field L r (span_r w.period t) z) w.period.first w.period.head (period_bits w.period) t t * 2 ^ w.period.tail
+  heads = heads_is x w.period.first w.period.head w.period.tail t v u.some u.fits ev ∙ ap (λ (y : ℕ). spread_of y w.period.first w.period.head (period_bits w.period) t t * 2 ^ w.period.tail) ex
 
-  pub alone_is : both ≡ false → v * 2 ^ (p.bits - p.head) % 2 ^ 64 ≡ periods_of L both p r s t z
-  alone_is eb = rw eb (omega (arith, heads))
+  pub alone_is : w.s ≡ None → v * 2 ^ w.period.tail % 2 ^ 64 ≡ periods_of L w t r s z
+  alone_is e = rw e (omega (arith, heads, spread_none w.period.second w.period.tail (period_bits w.period) t t))
 
-  pub sum_is : (y w : ℕ) → both ≡ true → y ≡ field L s (span_s p t) z → w ≡ spread_of y p.second (p.bits - p.head) p.bits t t
-      → v * 2 ^ (p.bits - p.head) % 2 ^ 64 + w ≡ periods_of L both p r s t z
-  sum_is y w eb ey ew = rw eb (ap₂ (λ (a b : ℕ). a + b) heads (ew ∙ ap (λ (q : ℕ). spread_of q p.second (p.bits - p.head) p.bits t t) ey))
+  pub sum_is : (b y q : ℕ) → w.s ≡ Some b → y ≡ field L (b + s) (span_s w.period t) z → q ≡ spread_of y w.period.second w.period.tail (period_bits w.period) t t
+      → v * 2 ^ w.period.tail % 2 ^ 64 + q ≡ periods_of L w t r s z
+  sum_is b y q e ey eq = rw e (ap₂ (λ (a b : ℕ). a + b) heads (eq ∙ ap (λ (q : ℕ). spread_of q w.period.second w.period.tail (period_bits w.period) t t) ey))
 
-  pub sum_fits : (y w : ℕ) → w ≡ spread_of y p.second (p.bits - p.head) p.bits t t → v * 2 ^ (p.bits - p.head) % 2 ^ 64 + w < 2 ^ 64
-  sum_fits y w ew = rw (heads, ew) (lt_of_lt_of_le (joint_lt (field L r (span_r p t) z) y p.first p.second p.head p.bits t t g.part_r) (pow_mono u.fits))
+  pub sum_fits : (y q : ℕ) → q ≡ spread_of y w.period.second w.period.tail (period_bits w.period) t t → v * 2 ^ w.period.tail % 2 ^ 64 + q < 2 ^ 64
+  sum_fits y q eq = rw (heads, eq) (lt_of_lt_of_le (joint_lt (field L r (span_r w.period t) z) y w.period.first w.period.second w.period.head w.period.tail t t) (pow_mono u.fits))
 
--- what the loop knows of the t periods that it works next
-pub record Next (m : List ℕ) (d : Sides) (p : Period) (t i : ℕ) : Type 0 where
-  pub room_r : Room m (r_at d p i) (span_r p t)
-  pub room_s : both_in d.some p ≡ true → Room m (s_at d p i) (span_s p t)
-  pub value : periods_of (size m) (both_in d.some p) p (r_at d p i) (s_at d p i) t (num m) ≡ gathered (size m) (woven_at d p) (num m) i (t * p.bits)
-  pub small : periods_of (size m) (both_in d.some p) p (r_at d p i) (s_at d p i) t (num m) < 2 ^ (t * p.bits)
-  pub some : 0 < t * p.bits
-  pub near_r : r_at d p i < 2 ^ 49
-  pub near_s : s_at d p i < 2 ^ 49
+-- what the loop knows of the t periods from item i on, n bits, which it works next in a memory m: their first head begins with bit r, and their first tail
+-- is s bits past where S begins
+pub record Next (m : List ℕ) (w : Weave) (t i n N r s : ℕ) : Type 0 where
+  pub upto : i + n ≤ N
+  pub room_r : Room m r (span_r w.period t)
+  pub room_s : RoomFor m (span_s w.period t) (second_bit w.s s)
+  pub room_to : Room m (w.to + i) n
+  pub value : periods_of (size m) w t r s (num m) ≡ gathered (size m) (woven_at w) (num m) i n
+  pub small : periods_of (size m) w t r s (num m) < 2 ^ n
 
-pub next_chunk : (m₀ m : List ℕ) (d : Sides) (p : Period) (c N t i : ℕ) → length m ≡ length m₀ → ReadyBits m₀ d p c N → Paced p → Chunk p t → i % p.bits ≡ 0 → i + t * p.bits ≤ N → Next m d p t i
-unfolding cursor_at
-next_chunk m₀ m d p c N t i len h g u hi le =
+next_chunk : (m₀ m : List ℕ) (w : Weave) (N t i : ℕ) → length m ≡ length m₀ → ReadyBits m₀ w N → Chunk w.period t → i % period_bits w.period ≡ 0 → i + t * period_bits w.period ≤ N
+    → Next m w t i (t * period_bits w.period) N (w.r + r_at w.period i) (s_at w.period i)
+next_chunk m₀ m w N t i len h u hi le =
     let es : size m ≡ size m₀ = ap (λ (k : ℕ). 8 * k) len in
-    let ev : periods_of (size m) (both_in d.some p) p (r_at d p i) (s_at d p i) t (num m) ≡ gathered (size m) (woven_at d p) (num m) i (t * p.bits) =
-    rw es (sym (periods_are m₀ d p c N t h g u i hi le (num m) t (omega arith))) in
-    let q = near d p i h.some_bits (omega (arith, h.upto_c, h.small)) g h.near_r h.near_s in
+    let ev : periods_of (size m) w t (w.r + r_at w.period i) (s_at w.period i) (num m) ≡ gathered (size m) (woven_at w) (num m) i (t * period_bits w.period) =
+    rw es (sym (periods_are m₀ w N t h u i hi le (num m) t (omega arith))) in
     record {
-      room_r = record { small = omega (arith, h.small); words = rw len h.words; some = omega (arith, u.part); few = u.spans_r; upto = rw es (reach_r m₀ d p c N t h g u i hi le) };
-      room_s = λ e. record { small = omega (arith, h.small); words = rw len h.words; some = span_some u.part e; few = u.spans_s; upto = rw es (reach_s m₀ d p c N t h g u i hi le e) };
+      upto = le;
+      room_r = record { small = omega (arith, h.small); words = rw len h.words; some = omega (arith, u.part); few = u.spans_r; upto = omega (arith, reach_r m₀ w N t h u i hi le) };
+      room_s = second_room w.s refl;
+      room_to = record { small = omega (arith, h.small); words = rw len h.words; some = omega (arith, mul-le-mul_right (period_bits w.period) (let z : 1 ≤ t = u.some in z), h.some_bits); few = u.fits; upto = omega (arith, h.upto_c) };
       value = ev;
-      small = rw ev (gathered_lt (size m) (woven_at d p) (num m) i (woven_lt (size m) d p (num m)) (t * p.bits));
-      some = omega (arith, mul-le-mul_right p.bits (let z : 1 ≤ t = u.some in z), h.some_bits);
-      near_r = q.r;
-      near_s = q.s;
+      small = rw ev (gathered_lt (size m) (woven_at w) (num m) i (woven_lt (size m) w (num m)) (t * period_bits w.period));
     }
   where
-    span_some : 0 < p.head → both_in d.some p ≡ true → 0 < span_s p t
-    span_some l e = let z = g.skips in one (ltb p.head p.bits) refl e
-      where
-        one : (b : Bool) → ltb p.head p.bits ≡ b → cond b d.some false ≡ true → 0 < span_s p t
-        one true eb e = let z = ltb-true p.head p.bits eb in omega (arith, g.skips)
-        one false eb e = let z : ◌≡◌ {A = ℕ} 0 1 = cc in absurd (omega arith)
+    second_room : (o : Option ℕ) → w.s ≡ o → RoomFor m (span_s w.period t) (second_bit o (s_at w.period i))
+    second_room (Some b) e =
+        record { small = omega (arith, h.small); words = rw len h.words; some = omega (arith, h.some_tail b e); few = u.spans_s; upto = omega (arith, reach_s m₀ w N t h u i hi le b e) }
+    second_room None e = tt
+
+-- k times t periods past an item that begins one: the places, and that there are t periods more
+chunk_after : (m₀ : List ℕ) (w : Weave) (from count t k : ℕ) → ReadyBits m₀ w (from + count) → Chunk w.period t → from % period_bits w.period ≡ 0 → k < count / (t * period_bits w.period)
+    → ((from + k * (t * period_bits w.period)) % period_bits w.period ≡ 0)
+    × (w.r + r_at w.period (from + k * (t * period_bits w.period)) ≡ w.r + r_at w.period from + k * (t * w.period.first))
+    × (s_at w.period (from + k * (t * period_bits w.period)) ≡ s_at w.period from + k * (t * w.period.second))
+    × (from + k * (t * period_bits w.period) + t * period_bits w.period ≤ from + count)
+chunk_after m₀ w from count t k h u hf hk =
+    let n : ℕ = t * period_bits w.period in
+    let z = later w.period from (k * t) h.some_bits hf in
+    let e : k * t * period_bits w.period ≡ k * (t * period_bits w.period) = mul_assoc k t (period_bits w.period) in
+    let some : 0 < t * period_bits w.period = omega (arith, mul-le-mul_right (period_bits w.period) (let z : 1 ≤ t = u.some in z), h.some_bits) in
+    let le : (k + 1) * (t * period_bits w.period) ≤ count = (le-div_iff_mul-le {k = t * period_bits w.period} {x = k + 1} some).0 (omega arith) in
+    (rw e at z.0, omega (arith, (rw (mul_assoc k t w.period.first, e) at z.1)), rw (mul_assoc k t w.period.second, e) at z.2, omega (arith, add-mul k 1 (t * period_bits w.period)))
+
+pub chunk_at : (m₀ m : List ℕ) (w : Weave) (from count t k : ℕ) (u : Cursor) → u ≡ cursor_at w from → length m ≡ length m₀ → ReadyBits m₀ w (from + count) → Chunk w.period t
+    → from % period_bits w.period ≡ 0 → k < count / (t * period_bits w.period)
+    → Next m w t (from + k * (t * period_bits w.period)) (t * period_bits w.period) (from + count) (u.r + k * (t * w.period.first)) (u.s + k * (t * w.period.second))
+unfolding cursor_at
+chunk_at m₀ m w from count t k u eu len h c hf hk =
+    let z = chunk_after m₀ w from count t k h c hf hk in
+    rw (eu, ← z.1, ← z.2) (next_chunk m₀ m w (from + count) t (from + k * (t * period_bits w.period)) len h c z.0 z.3)
+
+pub chunk_near : (m₀ : List ℕ) (w : Weave) (from count t k : ℕ) (u : Cursor) → u ≡ cursor_at w from → ReadyBits m₀ w (from + count) → Chunk w.period t
+    → from % period_bits w.period ≡ 0 → k < count / (t * period_bits w.period) → w.period.first < 2 ^ 32 → w.period.second < 2 ^ 32 → w.period.over < 2 ^ 32
+    → (u.r + k * (t * w.period.first) < 2 ^ 53) × (u.s + k * (t * w.period.second) < 2 ^ 53)
+unfolding cursor_at
+chunk_near m₀ w from count t k u eu h c hf hk bf bs bo =
+    let z = chunk_after m₀ w from count t k h c hf hk in
+    rw (eu, ← z.1, ← z.2) (near w (from + k * (t * period_bits w.period)) (omega (arith, z.3, h.upto_c, h.small)) h.near_r bf bs bo)
 
 -- ---- one part after another
 
-pub ready_less : (m m' : List ℕ) (d : Sides) (p : Period) (c n n' : ℕ) → length m' ≡ length m → n' ≤ n → ReadyBits m d p c n → ReadyBits m' d p c n'
-ready_less m m' d p c n n' len le h =
+pub ready_less : (m m' : List ℕ) (w : Weave) (n n' : ℕ) → length m' ≡ length m → n' ≤ n → ReadyBits m w n → ReadyBits m' w n'
+ready_less m m' w n n' len le h =
     record {
       small = omega (arith, h.small);
       words = rw len h.words;
       upto_c = omega (arith, h.upto_c);
       some_bits = h.some_bits;
       near_r = h.near_r;
-      near_s = h.near_s;
+      some_tail = h.some_tail;
       clear = λ i a lt e. let z = h.clear i a (omega arith) e in (omega (arith, z.0), ⊎_elim (λ l. inl (omega arith)) (λ l. inr l) z.1);
     }
 
-pub done_join : (m m₁ m₂ : List ℕ) (d : Sides) (p : Period) (c from a b : ℕ) → TurnedQuietly (taken_shape c 1 (woven_at d p)) from a m m₁ → TurnedQuietly (taken_shape c 1 (woven_at d p)) (from + a) b m₁ m₂ → TurnedQuietly (taken_shape c 1 (woven_at d p)) from (a + b) m m₂
-done_join m m₁ m₂ d p c from a b d₁ d₂ f =
+pub done_join : (m m₁ m₂ : List ℕ) (s : Shape) (from a b : ℕ) → TurnedQuietly s from a m m₁ → TurnedQuietly s (from + a) b m₁ m₂ → TurnedQuietly s from (a + b) m m₂
+done_join m m₁ m₂ s from a b d₁ d₂ f =
     let es : size m₁ ≡ size m = ap (λ (n : ℕ). 8 * n) (d₁ f).as_long in
     record {
       as_long = (d₂ f).as_long ∙ (d₁ f).as_long;
-      does = (rw es at (d₂ f).does) ∙ ap (turns (taken_shape c 1 (woven_at d p)) (size m) (from + a) b) (d₁ f).does ∙ resume (taken_shape c 1 (woven_at d p)) (size m) from a b (worked (num m) f);
+      does = (rw es at (d₂ f).does) ∙ ap (turns s (size m) (from + a) b) (d₁ f).does ∙ resume s (size m) from a b (worked (num m) f);
     }
 
 -- so many periods fit that are no longer than w
-pub chunk_of : (p : Period) (w : ℕ) → Paced p → 0 < p.head → w ≤ 32 → p.bits ≤ w → p.first ≤ w → p.second ≤ w → Chunk p (64 / w)
-chunk_of p w g h0 hw hb hf hs =
-    record { some = ht; part = h0; gap = omega arith; fits = under p.bits hb; fits_r = under p.first hf; fits_s = under p.second hs; spans_r = last p.first p.head hf (omega (arith, g.part_r)); spans_s = last p.second (p.bits - p.skipped) hs (omega arith) }
+pub chunk_of : (p : Period) (w : ℕ) → 0 < p.head → w ≤ 32 → period_bits p ≤ w → p.first ≤ w → p.second ≤ w → Chunk p (64 / w)
+chunk_of p w h0 hw hb hf hs =
+    record { some = ht; part = h0; gap = omega arith; fits = under (period_bits p) hb; fits_r = under p.first hf; fits_s = under p.second hs; spans_r = last p.first p.head hf (omega arith); spans_s = last p.second p.tail hs (omega arith) }
   where
     full : 64 / w * w ≤ 64
     full = div-mul-le_self 64 w
@@ -451,7 +455,7 @@ chunk_of p w g h0 hw hb hf hs =
     under n l = le_trans (mul-le-mul_left (64 / w) l) full
 
     ht : 0 < 64 / w
-    ht = (le-div_iff_mul-le {k = w} {x = 1} (omega (arith, g.part_r))).1 (omega arith)
+    ht = (le-div_iff_mul-le {k = w} {x = 1} (omega arith)).1 (omega arith)
 
     last : (f n : ℕ) → f ≤ w → n ≤ w → (64 / w - 1) * f + n ≤ 64
     last f n lf ln =

@@ -4,6 +4,7 @@ use mathlib.Core.Path.{◌≡◌, refl, sym, subst, ◌∙◌}
 use mathlib.Core.Bool.{Bool, true, false, cond, not, ◌&&◌, ◌||◌}
 use mathlib.Core.Logic.{◌⊎◌, inl, inr}
 use mathlib.Core.List.{List}
+use Rattle.std.specs.Prelude.{Some, None}
 use Prim.Native.Nat.{ℕ, ◌+◌, ◌-◌, ◌*◌, ◌/◌, ◌%◌, ◌^◌, ◌≤◌, ◌<◌, min}
 use native.Mathlib.Nat.{mod-lt}
 use native.Mathlib.Omega.{arith}
@@ -27,9 +28,7 @@ use Rattle.fields.proofs.Furthest.{at_most}
 use Rattle.fields.proofs.GatherMeaning.{Lengths, extents_low, compress_few, merge_few}
 use Rattle.instructions.specs.declared.operands.Operands.{Operands}
 use Rattle.instructions.specs.declared.layout.Fields.{Fields}
-use Rattle.instructions.specs.declared.items.Control.TheVariants.{Every, Where}
-use Rattle.instructions.specs.declared.items.Rule.{Rule}
-use Rattle.instructions.specs.declared.items.SecondBits.TheVariants.{From, Zeros}
+use Rattle.fields.specs.declared.gathers.Rule.{Rule}
 use Rattle.instructions.specs.Meanings.{to_t, to_half_t, loads_byte, loads_word, stores_byte, stores_word, Work, gathers, each_of_a_b, each_of_a, half_of_a, moves, Meaning, unlisted, exits, acts, branches, works, goes_by_items, kind_for}
 use Rattle.instructions.specs.Operands.{meaning_in, g_bit, length_in, base_in, indexed, address_in}
 use Rattle.instructions.specs.Layout.{source_of, control_of, result_of, vector_of, runs_of, zeros_of, compress_of, merge_of, mask_of, move_of, of_kind}
@@ -94,7 +93,7 @@ module _ (u : U.Unit) (c k n : ℕ) (some : 0 < k) (few : k ≤ 65535) (in_memor
   not_shared f e = rw e
 
   control_passes : (b : Bool) (z : ℕ) (ones : Bool) → inside (cond b absent_field (field_of Bit (base_in z) k)) n ≡ true → shares (field_of u (base_in c) k) (cond b absent_field (field_of Bit (base_in z) k)) ≡ false
-      → ControlPasses (8 * n) (place_of (low48 c)) (E.width_of u) k (cond b Every (Where (place_of (low48 z)) ones))
+      → ControlPasses (8 * n) (place_of (low48 c)) (E.width_of u) k (cond b None (Some (record { base = place_of (low48 z); ones = ones })))
   control_passes true z ones i x = tt
   control_passes false z ones i x =
       let hz = has Bit (base_in z) k few in
@@ -155,7 +154,7 @@ module _ (c k n : ℕ) (some : 0 < k) (few : k ≤ 65535) (in_memory : inside (f
       go (inr q) = let f : k < 2 ^ 47 = omega arith in rw (has_bits (base_in c) k f, has_bits (base_in d) e small) at q
 
   second_away : (d e : ℕ) → e < 2 ^ 47 → (b : Bool) → inside (cond b absent_field (field_of Bit (base_in d) e)) n ≡ true → clash (field_of Bit (base_in c) k) (cond b absent_field (field_of Bit (base_in d) e)) ≡ false
-      → SecondPasses (8 * n) (place_of (low48 c)) k e (cond b Zeros (From (place_of (low48 d))))
+      → SecondPasses (8 * n) (place_of (low48 c)) k e (cond b None (Some (place_of (low48 d))))
   second_away d e small true i x = tt
   second_away d e small false i x = let l = base_low d in (omega arith, bits_away d e small i x)
 
@@ -193,7 +192,7 @@ compress_accepted o n p some =
       second = unread (eqb (low48 o.x) 0);
     }
   where
-    unread : (b : Bool) → SecondPasses (8 * n) (place_of (low48 o.a)) (compress_items (runs_of o)) (furthest (λ j. past_s (compress_takes (runs_of o) j)) (compress_items (runs_of o))) (cond b Zeros (From (place_of (low48 o.x))))
+    unread : (b : Bool) → SecondPasses (8 * n) (place_of (low48 o.a)) (compress_items (runs_of o)) (furthest (λ j. past_s (compress_takes (runs_of o) j)) (compress_items (runs_of o))) (cond b None (Some (place_of (low48 o.x))))
     unread true = tt
     unread false =
         let l = base_low o.x in

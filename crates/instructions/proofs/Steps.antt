@@ -15,7 +15,7 @@ use Rattle.numbers.proofs.Raised.{Among, either}
 use Rattle.instructions.specs.declared.operands.Operands.{Operands}
 use Rattle.instructions.specs.declared.layout.Fields.{Fields}
 use Rattle.instructions.specs.declared.effects.Outcome.{Outcome}
-use Rattle.instructions.specs.declared.effects.Next.TheVariants.{Following, Target}
+use Rattle.std.specs.Prelude.{Some, None}
 use Rattle.instructions.specs.Meanings.{to_t, to_half_t, loads_byte, loads_word, stores_byte, stores_word, gathers, each_of_a_b, each_of_a, half_of_a, moves, Meaning, unlisted, exits, acts, branches, works, kind_for}
 use Rattle.instructions.specs.Operands.{code_in, meaning_in}
 use Rattle.instructions.specs.Fetch.{long_in, length_of, there, unfetched_at}
@@ -132,13 +132,13 @@ module _ (p word : ℕ) (o : Operands) (bytes memory : ℕ) (registers : List �
 
 -- where control goes: to the word that follows, or to a taken target
 abbrev Goes : ℕ → Operands → Outcome → Type 0
-Goes w o r = (r.next ≡ Following) ⊎ ((r.next ≡ Target (target_of o)) × ((taken_of w o ≡ true) × (fields_of w o ≡ branch_fields w o)))
+Goes w o r = (r.target ≡ None) ⊎ ((r.target ≡ Some (target_of o)) × ((taken_of w o ≡ true) × (fields_of w o ≡ branch_fields w o)))
 
 branch_goes : (w : ℕ) (o : Operands) → fields_of w o ≡ branch_fields w o → Goes w o (branch_of w o)
 unfolding branch_of
 branch_goes w o f = go (taken_of w o) refl
   where
-    go : (b : Bool) → taken_of w o ≡ b → (cond b (Target (target_of o)) Following ≡ Following) ⊎ ((cond b (Target (target_of o)) Following ≡ Target (target_of o)) × ((taken_of w o ≡ true) × (fields_of w o ≡ branch_fields w o)))
+    go : (b : Bool) → taken_of w o ≡ b → (cond b (Some (target_of o)) None ≡ None) ⊎ ((cond b (Some (target_of o)) None ≡ Some (target_of o)) × ((taken_of w o ≡ true) × (fields_of w o ≡ branch_fields w o)))
     go true e = inr (refl, (e, f))
     go false e = inl refl
 
@@ -181,8 +181,8 @@ acts_place p word o bytes memory registers flags lent passes not_items low whole
     target : taken_of word o ≡ true → fields_of word o ≡ branch_fields word o → Right (target_of o).0
     target t f =
         let q : Passed (branch_fields word o) bytes = subst (λ (g : Fields). Passed g bytes) f (verdict_passed p word o bytes passes) in
-        (mod-lt _ (pow_pos 48), q.target_aligned t)
+        (mod-lt _ (pow_pos 48), q.target_aligned (target_of o) (rw t))
 
-    go : Goes word o (scalar_of word o bytes memory) → Right (next_p p (length_of word) (scalar_of word o bytes memory).next)
+    go : Goes word o (scalar_of word o bytes memory) → Right (next_p p (length_of word) (scalar_of word o bytes memory).target)
     go (inl e) = rw e follows
     go (inr (e, (t, f))) = rw e (target t f)

@@ -1,19 +1,20 @@
 -- How a code is looked up: a code that is none of the first ones is looked up among the others. So what the cases of the look-up show is the row of the code; and of
 -- any code it is known which line has it, and that it passes every test that the whole table passes, or that none has it.
-use mathlib.Core.Path.{◌≡◌, refl, sym, ap, ◌∙◌}
+use mathlib.Core.Path.{◌≡◌, refl, sym}
 use mathlib.Core.Bool.{Bool, true, false, not, cond, ◌&&◌}
-use mathlib.Core.List.{List, [], ◌∷◌, ◌++◌, map}
-use Prim.Native.Nat.{ℕ, zero, suc, ◌≤◌, ◌<◌}
-use native.Mathlib.Omega.{arith}
+use mathlib.Core.List.{List, [], ◌∷◌, ◌++◌}
+use Prim.Native.Nat.{ℕ}
 use lib.Dec.{eqb, T}
-use lib.ListN.{length, get_or}
+use lib.ListN.{length}
 use borrow.Author.Tests.{eqb-true, eq-eqb, ne_eqb}
-use Rattle.instructions.specs.declared.table.Row.{Row}
-use Rattle.instructions.specs.declared.table.Found.{Found}
-use Rattle.instructions.specs.declared.table.Found.TheVariants.{At, Nothing}
+use Rattle.std.specs.Prelude.{Option, Some, None, slice_get}
+use Rattle.std.proofs.Common.{Bor}
+use Rattle.std.specs.Option.{option_copied}
+use Rattle.std.specs.Slice.{IsItemAt}
+use Rattle.std.proofs.lemmas.Option.{slice_get_past, slice_get_read}
 use Rattle.instructions.specs.Meanings.{Meaning, unlisted}
-use Rattle.instructions.specs.Table.{Line, row_of, table, look_up, find, found, meaning_of, row_in}
-use Rattle.instructions.specs.Private.Inner.{Past, Stands}
+use Rattle.instructions.specs.Table.{Line, row_of, table, look_up, find, found, meaning_of}
+use Rattle.instructions.specs.Private.Inner.{Past}
 use Rattle.instructions.proofs.Conjunctions.{and_first, and_rest}
 
 -- ---- a code that is none of the first ones
@@ -29,11 +30,6 @@ module _ {A B : Type 0} (code : A → ℕ) (says : A → B) (none : B) (k : ℕ)
       let q : N × (k ≡ code x → ⊥) = past_left (N × (k ≡ code x → ⊥)) xs p in
       rw (ne_eqb k (code x) q.1) (past (N × (k ≡ code x → ⊥)) xs ys p)
 
-pub stands_found : (f : Found) (k : ℕ) → Stands f k → f ≡ found k
-unfolding found
-stands_found (At r) k h = h.1 ∙ ap (λ (j : ℕ). find j table) (sym h.0)
-stands_found Nothing k h = sym (past (λ (l : Line). l.code) (λ (l : Line). At (row_of l)) Nothing k (Unit {0}) table [] h)
-
 -- ---- the line of a code
 
 -- all of a list pass a test
@@ -46,8 +42,8 @@ abbrev pub means_in : ℕ → List Line → Meaning
 means_in k ls = look_up (λ l. l.code) (λ l. l.means) unlisted k ls
 
 pub data LookedIn (ls : List Line) (k : ℕ) : Type 0 where
-  listed : (l : Line) → l.code ≡ k → ((f : Line → Bool) → T (every f ls) → T (f l)) → find k ls ≡ At (row_of l) → means_in k ls ≡ l.means → LookedIn ls k
-  absent : find k ls ≡ Nothing → means_in k ls ≡ unlisted → LookedIn ls k
+  listed : (l : Line) → l.code ≡ k → ((f : Line → Bool) → T (every f ls) → T (f l)) → find k ls ≡ Some (row_of l) → means_in k ls ≡ l.means → LookedIn ls k
+  absent : find k ls ≡ None → means_in k ls ≡ unlisted → LookedIn ls k
 
 looked_in : (ls : List Line) (k : ℕ) → LookedIn ls k
 unfolding every
@@ -61,8 +57,8 @@ looked_in (l ∷ ls) k = go (looked_in ls k) (eqb k l.code) refl
 
 -- of the whole table
 pub data Looked (k : ℕ) : Type 0 where
-  has : (l : Line) → l.code ≡ k → ((f : Line → Bool) → T (every f table) → T (f l)) → found k ≡ At (row_of l) → meaning_of k ≡ l.means → Looked k
-  none : found k ≡ Nothing → meaning_of k ≡ unlisted → Looked k
+  has : (l : Line) → l.code ≡ k → ((f : Line → Bool) → T (every f table) → T (f l)) → found k ≡ Some (row_of l) → meaning_of k ≡ l.means → Looked k
+  none : found k ≡ None → meaning_of k ≡ unlisted → Looked k
 
 pub looked : (k : ℕ) → Looked k
 unfolding found meaning_of
@@ -105,12 +101,7 @@ module _ (f : Line → Bool) (k : ℕ) where
 
 -- ---- by place
 
-pub row_placed : (ls : List Line) (i : ℕ) (d : Row) → i < length ls → At (get_or (map row_of ls) i d) ≡ row_in i ls
-row_placed [] i d h = absurd (omega arith)
-row_placed (l ∷ ls) zero d h = refl
-row_placed (l ∷ ls) (suc i) d h = row_placed ls i d (omega arith)
-
-pub none_placed : (ls : List Line) (i : ℕ) → length ls ≤ i → Nothing ≡ row_in i ls
-none_placed [] i h = refl
-none_placed (l ∷ ls) zero h = absurd (omega arith)
-none_placed (l ∷ ls) (suc i) h = none_placed ls i (omega arith)
+-- an element that is lent and copied, or none past the end
+pub copied : {X : Type 0} (xs : List X) (i : ℕ) (r : Option (Bor X)) → IsItemAt xs i r → option_copied r ≡ slice_get xs i
+copied xs i None h = sym (slice_get_past xs i h.3)
+copied xs i (Some b) h = sym (slice_get_read xs (length xs) i b.now refl h.3.0 h.1)

@@ -8,10 +8,11 @@ use lib.Bits.{bit_and}
 use lib.Dec.{eqb, ltb, leb, T, ltb→lt}
 use borrow.Author.Tests.{eq-eqb, ne_eqb}
 use Rattle.fields.specs.Field.{field}
-use Rattle.instructions.specs.declared.items.Rule.{Rule}
+use Rattle.fields.specs.declared.gathers.Rule.{Rule}
+use Rattle.instructions.specs.declared.table.Format.{Format}
 use Rattle.instructions.specs.declared.table.Kind.{Kind}
 use Rattle.instructions.specs.declared.table.Row.{Row}
-use Rattle.instructions.specs.declared.table.Found.{Found}
+use Rattle.std.specs.Prelude.{Some, None}
 use Rattle.instructions.specs.Meanings.{goes_by_items, kind_for, to_t, to_half_t, loads_byte, loads_word, stores_byte, stores_word, gathers, each_of_a_b, each_of_a, half_of_a, moves, Meaning, unlisted, exits, acts, branches, works}
 use Rattle.instructions.specs.Table.{at_s, at_x, at_y, G, Line, table, row_of, kind_of, long, vector_format, zero_bits, look_up, found, meaning_of, has_items}
 use Rattle.instructions.specs.Private.Inner.{code_of}
@@ -58,9 +59,18 @@ abbrev pub ascending : ℕ → List Line → Bool
 ascending k [] = true
 ascending k (l ∷ ls) = ltb k l.code && (meant l.means && ascending l.code ls)
 
+-- the number that the machine's documents give a format
+abbrev pub format_number : Format → ℕ
+format_number Format.One = 0x1
+format_number Format.Three = 0x3
+format_number Format.Four = 0x4
+format_number Format.Seven = 0x7
+format_number Format.A = 0xA
+format_number Format.C = 0xC
+
 -- formats are 1, 3, 4, 7, A and C, and the format decides the length: codes below 80 have 32 bits
 abbrev pub length_rule : Line → Bool
-length_rule l = beq (long l.format) (leb 0x80 l.code) && (long l.format || eqb l.format 0x4 || eqb l.format 0x7 || eqb l.format 0xA)
+length_rule l = beq (long l.format) (leb 0x80 l.code) && (long l.format || eqb (format_number l.format) 0x4 || eqb (format_number l.format) 0x7 || eqb (format_number l.format) 0xA)
 
 -- the format goes with what the code does; 4 and A are those of register instructions, A without S (`format_a_rule`)
 abbrev pub format_is : Meaning → ℕ → Bool
@@ -80,7 +90,7 @@ format_is (works (half_of_a g)) f = eqb f 0x1
 format_is (works moves) f = eqb f 0x3
 
 abbrev pub format_rule : Line → Bool
-format_rule l = format_is l.means l.format
+format_rule l = format_is l.means (format_number l.format)
 
 -- only a format with a G has allowed G bits
 abbrev pub allowed_rule : Line → Bool
@@ -93,8 +103,8 @@ apart_rule l = ltb (zero_bits (row_of l)) (2 ^ 56) && ltb l.named (2 ^ 56) && eq
 -- format A has eight zero bits where S would be, and of format 4 no other than the exit has
 abbrev pub format_a_rule : Line → Bool
 format_a_rule l =
-    (not (eqb l.format 0xA) || eqb (bit_and l.zeros at_s) at_s)
-    && (not (eqb l.format 0x4) || eqb l.code 0x09 || eqb (bit_and l.zeros at_s) 0)
+    (not (eqb (format_number l.format) 0xA) || eqb (bit_and l.zeros at_s) at_s)
+    && (not (eqb (format_number l.format) 0x4) || eqb l.code 0x09 || eqb (bit_and l.zeros at_s) 0)
 
 -- the vectors are those of format 1; X and Y are zero there, G bit 1 is allowed, and Z may be 00 or not
 abbrev pub vector_rule : Line → Bool
@@ -172,14 +182,14 @@ looked_up {l = l} says else k (there {x} {ls} i) t =
     let later = above x.code i rest in
     rw (ne_eqb l.code x.code (λ e. omega arith)) (looked_up says else x.code i rest)
 
-pub one_meaning : (l : Line) → In l table → (found l.code ≡ Found.At (row_of l)) × (meaning_of l.code ≡ l.means)
+pub one_meaning : (l : Line) → In l table → (found l.code ≡ Some (row_of l)) × (meaning_of l.code ≡ l.means)
 unfolding found meaning_of
-one_meaning l i = (looked_up (λ x. Found.At (row_of x)) Found.Nothing 0 i codes_ascend, looked_up (λ x. x.means) unlisted 0 i codes_ascend)
+one_meaning l i = (looked_up (λ x. Some (row_of x)) None 0 i codes_ascend, looked_up (λ x. x.means) unlisted 0 i codes_ascend)
 
 -- ---- what `found` gives
 
 -- any test that the whole table passes
-pub row_passes : (f : Row → Bool) → T (every (λ l. f (row_of l)) table) → (k : ℕ) (r : Row) → found k ≡ Found.At r → T (f r)
+pub row_passes : (f : Row → Bool) → T (every (λ l. f (row_of l)) table) → (k : ℕ) (r : Row) → found k ≡ Some r → T (f r)
 row_passes f t k r e = go (looked k)
   where
     go : Looked k → T (f r)
@@ -187,7 +197,7 @@ row_passes f t k r e = go (looked k)
     go (none h m) = let z : ◌≡◌ {A = ℕ} 0 1 = cc in absurd (omega arith)
 
 -- its code is the one that was looked up
-pub found_code : (k : ℕ) (r : Row) → found k ≡ Found.At r → code_of r ≡ k
+pub found_code : (k : ℕ) (r : Row) → found k ≡ Some r → code_of r ≡ k
 found_code k r e = go (looked k)
   where
     go : Looked k → code_of r ≡ k
@@ -226,7 +236,7 @@ pub record Its (k : ℕ) (r : Row) : Type 0 where
   pub items : has_items (kind_of r) ≡ goes_by_items (meaning_of k)
   pub exit : ends (kind_of r) ≡ eqb k 0x09
 
-pub its : (k : ℕ) (r : Row) → found k ≡ Found.At r → Its k r
+pub its : (k : ℕ) (r : Row) → found k ≡ Some r → Its k r
 unfolding every
 its k r e = go (looked k)
   where
@@ -242,7 +252,7 @@ its k r e = go (looked k)
     go (none h m) = let z : ◌≡◌ {A = ℕ} 0 1 = cc in absurd (omega arith)
 
 -- of a code that has no row
-pub its_none : (k : ℕ) → found k ≡ Found.Nothing → meaning_of k ≡ unlisted
+pub its_none : (k : ℕ) → found k ≡ None → meaning_of k ≡ unlisted
 its_none k e = go (looked k)
   where
     go : Looked k → meaning_of k ≡ unlisted

@@ -6,11 +6,9 @@ use Prim.Native.Nat.{ℕ, ◌^◌, ◌<◌}
 use Rattle.fields.specs.Bytes.{Bytes}
 use Rattle.fields.proofs.Lists.{num_inj}
 use Rattle.instructions.specs.declared.operands.Operands.{Operands}
-use Rattle.instructions.specs.declared.table.Found.{Found}
+use Rattle.std.specs.Prelude.{Some, Ok, Err}
 use Rattle.instructions.specs.declared.words.Parts.{Parts}
 use Rattle.instructions.specs.declared.words.Refusal.{Refusal}
-use Rattle.instructions.specs.declared.words.Reading.{Reading}
-use Rattle.instructions.specs.declared.words.Assembled.{Assembled}
 use Rattle.instructions.specs.Table.{Line, table, row_of, found, meaning_of}
 use Rattle.instructions.specs.Words.{parts_of, joined, reading, assembled}
 use Rattle.instructions.specs.Verdict.{field_checks, first_number, case_of}
@@ -27,24 +25,24 @@ use Rattle.instructions.proofs.Examples.{examples_hold}
 -- ---- 1. WORDS AND PARTS (demand 2)
 
 -- §3.15: a listed word taken into its parts and put together again is the same word.
-pub taken_apart_and_joined : (w : ℕ) (p : Parts) → w < 2 ^ 64 → reading w ≡ Reading.Listed p → assembled p ≡ Assembled.Word w
+pub taken_apart_and_joined : (w : ℕ) (p : Parts) → w < 2 ^ 64 → reading w ≡ Ok p → assembled p ≡ Ok w
 taken_apart_and_joined = RoundTrip.read_assembled
 
 -- §3.15: parts that are accepted read back the same.
-pub joined_and_taken_apart : (p : Parts) (w : ℕ) → Whole p → assembled p ≡ Assembled.Word w → reading w ≡ Reading.Listed p
+pub joined_and_taken_apart : (p : Parts) (w : ℕ) → Whole p → assembled p ≡ Ok w → reading w ≡ Ok p
 joined_and_taken_apart = RoundTrip.assembled_read
 
 -- §3.15: putting together refuses what reading refuses, under the same number.
-pub refused_either_way : (p : Parts) (n : Refusal) → assembled p ≡ Assembled.Refused n → reading (joined p) ≡ Reading.Refused n
+pub refused_either_way : (p : Parts) (n : Refusal) → assembled p ≡ Err n → reading (joined p) ≡ Err n
 refused_either_way = RoundTrip.refused_alike
 
-pub refused_apart : (w : ℕ) (n : Refusal) → w < 2 ^ 64 → reading w ≡ Reading.Refused n → assembled (parts_of w) ≡ Assembled.Refused n
+pub refused_apart : (w : ℕ) (n : Refusal) → w < 2 ^ 64 → reading w ≡ Err n → assembled (parts_of w) ≡ Err n
 refused_apart = RoundTrip.read_refused_alike
 
 -- ---- 2. EACH CODE ONCE (demand 2)
 
 -- §3.8: each line of the table is the one that its code is looked up to: a listed code has one row and one meaning, and each row and each meaning has a code.
-pub each_code_once : (l : Line) → In l table → (found l.code ≡ Found.At (row_of l)) × (meaning_of l.code ≡ l.means)
+pub each_code_once : (l : Line) → In l table → (found l.code ≡ Some (row_of l)) × (meaning_of l.code ≡ l.means)
 each_code_once = one_meaning
 
 -- ---- 3. NOTHING TO CHECK (demand 1)

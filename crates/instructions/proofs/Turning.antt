@@ -2,7 +2,8 @@
 use mathlib.Core.Path.{◌≡◌, refl, sym, ap, ap₂, ◌∙◌}
 use mathlib.Core.Bool.{Bool, true, false, cond}
 use mathlib.Core.List.{List}
-use Prim.Native.Nat.{ℕ, zero, suc, ◌+◌, ◌*◌, ◌%◌, ◌^◌, ◌<◌}
+use Rattle.std.specs.Prelude.{Option}
+use Prim.Native.Nat.{ℕ, zero, suc, ◌+◌, ◌-◌, ◌*◌, ◌/◌, ◌%◌, ◌^◌, ◌≤◌, ◌<◌}
 use native.Mathlib.Nat.{mod-eq_of_lt}
 use native.Mathlib.Numerals.{add-one}
 use native.Mathlib.Omega.{arith}
@@ -14,21 +15,22 @@ use Rattle.fields.specs.Bytes.{num, size, Bytes}
 use Rattle.fields.proofs.Places.{field_lt}
 use Rattle.fields.proofs.Lists.{byte_store, byte_field}
 use Rattle.fields.specs.Memory.{Kept}
-use Rattle.instructions.specs.declared.lanes.Lane.{Lane}
-use Rattle.instructions.specs.declared.lanes.Gating.{Gating}
-use Rattle.instructions.specs.declared.items.Made.{Made}
+use Rattle.instructions.specs.declared.items.Source.{Source}
+use Rattle.instructions.specs.declared.items.Source.TheVariants.{Field}
+use Rattle.instructions.specs.declared.items.Gated.{Gated}
+use Rattle.numbers.specs.declared.flags.Made.{Made}
 use Rattle.instructions.specs.Items.{Place, Shape, value_at, stored_at, made_at, item_at, flags_at, MemoryAndFlags, worked, turn, turns}
-use Rattle.instructions.specs.Plan.{taken_shape, source_item, control_bit, sense_of}
-use Rattle.instructions.specs.Private.Loops.{Settled, Gate, source_by, control_by, laned}
+use Rattle.instructions.specs.Plan.{taken_shape, vector_shape, source_item, control_bit, sense_of}
+use Rattle.instructions.specs.Private.Loops.{SourceReach, Settled, Gate, Turned}
 
 -- an item that is settled is a turn
-pub one_turn : (s : Shape) (m m' : List ℕ) (f f' i : ℕ) (go : Bool) (new : Made) → go ≡ stored_at s (size m) i (num m) → new ≡ made_at s (size m) i (num m)
+pub one_turn : (s : Shape) (m m' : List ℕ) (f f' i : ℕ) (go : Bool) (new : Made ℕ) → go ≡ stored_at s (size m) i (num m) → new ≡ made_at s (size m) i (num m)
     → Settled m (s.result + i * s.width) s.width go new f m' f' → worked (num m') f' ≡ turn s (size m) i (worked (num m) f)
 unfolding item_at flags_at
 one_turn s m m' f f' i go new eg en k =
     ap₂ worked
-    (k.kept.holds ∙ ap₂ (λ (t : Bool) (a : Made). store (size m) (s.result + i * s.width) s.width (cond t (a.item % 2 ^ s.width) (field (size m) (s.result + i * s.width) s.width (num m))) (num m)) eg en)
-    (k.sets ∙ ap₂ (λ (t : Bool) (a : Made). bit_or f (cond t a.flags 0)) eg en)
+    (k.kept.holds ∙ ap₂ (λ (t : Bool) (a : Made ℕ). store (size m) (s.result + i * s.width) s.width (cond t (a.item % 2 ^ s.width) (field (size m) (s.result + i * s.width) s.width (num m))) (num m)) eg en)
+    (k.sets ∙ ap₂ (λ (t : Bool) (a : Made ℕ). bit_or f (cond t a.flags 0)) eg en)
 
 -- k items are done, and one more
 pub more : (s : Shape) (m₀ m m' : List ℕ) (f₀ f f' from k : ℕ) → length m ≡ length m₀ → worked (num m) f ≡ turns s (size m₀) from k (worked (num m₀) f₀)
@@ -36,22 +38,49 @@ pub more : (s : Shape) (m₀ m m' : List ℕ) (f₀ f f' from k : ℕ) → lengt
 more s m₀ m m' f₀ f f' from k len inv e =
     rw add-one (e ∙ ap (λ (n : ℕ). turn s (8 * n) (from + k) (worked (num m) f)) len ∙ ap (turn s (size m₀) (from + k)) inv)
 
--- a turn of the loops of vectors, from what its calls say
-pub lanes_turn : (g : ℕ → ℕ → Made) (w : ℕ) (fa fb fz : Bool) (a b : Lane) (z : Gating) (c from k : ℕ) (m₀ m m' : List ℕ) (f₀ f f' go x y : ℕ) (new : Made)
-    → length m ≡ length m₀ → worked (num m) f ≡ turns (laned g w fa fb fz a b z c) (size m₀) from k (worked (num m₀) f₀)
-    → Gate go (value_at (size m) 1 (control_bit (control_by fz z) (from + k)) (num m)) (sense_of (control_by fz z))
-    → x ≡ value_at (size m) 64 (source_item (source_by fa a) (from + k)) (num m)
-    → y ≡ value_at (size m) 64 (source_item (source_by fb b) (from + k)) (num m)
+-- a turn of the loop of vectors, from what its calls say
+pub vector_turn : (a b : Source) (z : Option Gated) (c w : ℕ) (g : ℕ → ℕ → Made ℕ) (from i : ℕ) (m₀ m m' : List ℕ) (f₀ f f' go x y : ℕ) (new : Made ℕ)
+    → from ≤ i → length m ≡ length m₀ → worked (num m) f ≡ turns (vector_shape a b z c w g) (size m₀) from (i - from) (worked (num m₀) f₀)
+    → Gate go (value_at (size m) 1 (control_bit z i) (num m)) (sense_of z)
+    → x ≡ value_at (size m) 64 (source_item a i) (num m)
+    → y ≡ value_at (size m) 64 (source_item b i) (num m)
     → new ≡ g x y
-    → Settled m (8 * c + (from + k) * w) w (eqb go 1) new f m' f'
-    → worked (num m') f' ≡ turns (laned g w fa fb fz a b z c) (size m₀) from (k + 1) (worked (num m₀) f₀)
+    → Settled m (c + i * w) w (eqb go 1) new f m' f'
+    → worked (num m') f' ≡ turns (vector_shape a b z c w g) (size m₀) from (i + 1 - from) (worked (num m₀) f₀)
 unfolding stored_at made_at
-lanes_turn g w fa fb fz a b z c from k m₀ m m' f₀ f f' go x y new len inv eg ex ey en st =
-    more (laned g w fa fb fz a b z c) m₀ m m' f₀ f f' from k len inv
-    (one_turn (laned g w fa fb fz a b z c) m m' f f' (from + k) (eqb go 1) new eg.tells (en ∙ ap₂ g ex ey) st)
+vector_turn a b z c w g from i m₀ m m' f₀ f f' go x y new le len inv eg ex ey en st =
+    let here : from + (i - from) ≡ i = omega arith in
+    let next : i + 1 - from ≡ i - from + 1 = omega arith in
+    let s : Shape = vector_shape a b z c w g in
+    let t : worked (num m') f' ≡ turn s (size m) i (worked (num m) f) = one_turn s m m' f f' i (eqb go 1) new eg.tells (en ∙ ap₂ g ex ey) st in
+    rw next (more s m₀ m m' f₀ f f' from (i - from) len inv (t ∙ ap (λ (j : ℕ). turn s (size m) j (worked (num m) f)) (sym here)))
+
+-- items that are made of A alone, whatever B is
+pub alone_turns : (a b b' : Source) (z : Option Gated) (c w : ℕ) (g : ℕ → ℕ → Made ℕ) → ((x y y' : ℕ) → g x y ≡ g x y') → (L from n : ℕ) (u : MemoryAndFlags)
+    → turns (vector_shape a b z c w g) L from n u ≡ turns (vector_shape a b' z c w g) L from n u
+unfolding item_at flags_at stored_at made_at
+alone_turns a b b' z c w g one L from zero u = refl
+alone_turns a b b' z c w g one L from (suc n) u =
+    let s : Shape = vector_shape a b z c w g in
+    let s' : Shape = vector_shape a b' z c w g in
+    ap (turn s L (from + n)) (alone_turns a b b' z c w g one L from n u) ∙ alike_turn (from + n) (turns s' L from n u)
+  where
+    alike_turn : (i : ℕ) (u : MemoryAndFlags) → turn (vector_shape a b z c w g) L i u ≡ turn (vector_shape a b' z c w g) L i u
+    alike_turn i u = rw (one (value_at L 64 (source_item a i) u.memory) (value_at L 64 (source_item b i) u.memory) (value_at L 64 (source_item b' i) u.memory))
+
+pub alone_turned : (a a' b b' : Source) (z : Option Gated) (c w : ℕ) (g : ℕ → ℕ → Made ℕ) (from n : ℕ) (m : List ℕ) (f : ℕ) (m' : List ℕ) (f' : ℕ) → ((x y y' : ℕ) → g x y ≡ g x y') → a ≡ a'
+    → Turned (vector_shape a b z c w g) from n m f m' f' → Turned (vector_shape a' b' z c w g) from n m f m' f'
+alone_turned a a' b b' z c w g from n m f m' f' one e t =
+    record { as_long = t.as_long; does = rw (← e) (t.does ∙ alone_turns a b b' z c w g one (size m) from n (worked (num m) f)) }
+
+-- a field of words begins with a byte
+pub whole_field : (m : List ℕ) (n base : ℕ) (a : Source) → a ≡ Field base → SourceReach m n a → Field (8 * (base / 8)) ≡ a
+whole_field m n base a e h =
+    let q : SourceReach m n (Field base) = rw e at h in
+    ap Field (omega (arith, q.0)) ∙ sym e
 
 -- what a store of the chosen item settles: v at a' is its low w bits at a
-pub settling : (m m' : List ℕ) (a a' w : ℕ) (go : Bool) (new : Made) (f old item raised v : ℕ) → a' ≡ a → v ≡ item % 2 ^ w
+pub settling : (m m' : List ℕ) (a a' w : ℕ) (go : Bool) (new : Made ℕ) (f old item raised v : ℕ) → a' ≡ a → v ≡ item % 2 ^ w
     → old ≡ field (size m) a' w (num m) → item ≡ cond go new.item old → raised ≡ cond go new.flags 0 → Kept m a' w v m'
     → Settled m a w go new f m' (bit_or f raised)
 settling m m' a a' w go new f old item raised v e ev eo ei er kp =

@@ -1,8 +1,9 @@
 -- A vector, bit or move instruction that has no items is refused by none of 8 to 11: all its fields are then empty, and an empty field passes. Nor is a
 -- field checked that nothing is read from: it is empty by itself.
 use mathlib.Core.Path.{◌≡◌, refl, sym, ap, ◌∙◌}
+use Rattle.std.specs.Prelude.{None}
 use mathlib.Core.Bool.{Bool, true, false, cond, not, ◌&&◌, ◌||◌}
-use Prim.Native.Nat.{ℕ, ◌%◌, min, ◌≤◌}
+use Prim.Native.Nat.{ℕ, min, ◌≤◌}
 use native.Mathlib.Omega.{arith}
 use lib.Dec.{eqb}
 use borrow.Author.Tests.{eq-eqb, le-ltb}
@@ -18,14 +19,14 @@ use Rattle.fields.proofs.FieldMeaning.{empty_unchecked}
 use Rattle.fields.proofs.GatherMeaning.{merge_s_unread, mask_s_unread}
 use Rattle.instructions.specs.declared.operands.Operands.{Operands}
 use Rattle.instructions.specs.declared.layout.Fields.{Fields}
-use Rattle.instructions.specs.declared.items.Rule.{Rule}
+use Rattle.fields.specs.declared.gathers.Rule.{Rule}
 use Rattle.instructions.specs.Meanings.{Work, gathers, each_of_a_b, each_of_a, half_of_a, moves, Meaning, unlisted, exits, acts, branches, works, goes_by_items, kind_for}
 use Rattle.instructions.specs.Operands.{meaning_in, g_bit, R, S, T, length_in, base_in, indexed}
 use Rattle.instructions.specs.Plan.{items_of}
 use Rattle.instructions.specs.Planned.{plan_by, plan_in}
 use Rattle.instructions.specs.Instruction.{by_items, plan_of, count_of}
 use Rattle.instructions.specs.Layout.{source_of, short_of, control_of, result_of, vector_of, runs_of, zeros_of, compress_of, woven_of, merge_of, mask_of, move_of, of_kind, fields_of}
-use Rattle.instructions.specs.Verdict.{misaligned, outside, overlapping}
+use Rattle.instructions.specs.Verdict.{off_half_words, misaligned, outside, overlapping}
 use Rattle.instructions.specs.Private.Inner.{refusal_of}
 use Rattle.instructions.proofs.VerdictTests.{never}
 use Rattle.instructions.proofs.LayoutMade.{fields_mean}
@@ -40,14 +41,14 @@ pub record Empty (f : Fields) : Type 0 where
   pub second : Bare f.second
   pub control : Bare f.control
   pub short : f.short ≡ false
-  pub taken : f.taken ≡ false
+  pub goes_on : f.target ≡ None
 
 -- ---- an empty field passes
 
 -- the four tests, over what they ask
-passing : (t q ra aa ba s ri ai bi ki sa pa sb pb sk : Bool) → t ≡ false → ra ≡ true → aa ≡ true → ba ≡ true → s ≡ false → ri ≡ true → ai ≡ true → bi ≡ true → ki ≡ true → sa ≡ false → sb ≡ false → sk ≡ false
-    → ◌≡◌ {A = ℕ} (cond ((t && not q) || (not ra || (not aa || not ba))) 8 (cond s 9 (cond (not ri || (not ai || (not bi || not ki))) 10 (cond ((sa && not pa) || ((sb && not pb) || sk)) 11 0)))) 0
-passing t q ra aa ba s ri ai bi ki sa pa sb pb sk et era eaa eba es eri eai ebi eki esa esb esk =
+passing : (t ra aa ba s ri ai bi ki sa pa sb pb sk : Bool) → t ≡ false → ra ≡ true → aa ≡ true → ba ≡ true → s ≡ false → ri ≡ true → ai ≡ true → bi ≡ true → ki ≡ true → sa ≡ false → sb ≡ false → sk ≡ false
+    → ◌≡◌ {A = ℕ} (cond (t || (not ra || (not aa || not ba))) 8 (cond s 9 (cond (not ri || (not ai || (not bi || not ki))) 10 (cond ((sa && not pa) || ((sb && not pb) || sk)) 11 0)))) 0
+passing t ra aa ba s ri ai bi ki sa pa sb pb sk et era eaa eba es eri eai ebi eki esa esb esk =
     rw (et, era, eaa, eba, es, eri, eai, ebi, eki, esa, esb, esk)
 
 pub empty_passes : (f : Fields) (n : ℕ) → Empty f → refusal_of f n ≡ 0
@@ -57,7 +58,7 @@ empty_passes f n e =
     let a = empty_unchecked f.first e.first n absent_field in
     let b = empty_unchecked f.second e.second n absent_field in
     let k = empty_unchecked f.control e.control n absent_field in
-    passing _ (eqb (f.target.0 % 32) 0) _ _ _ _ _ _ _ _ _ (in_place f.result f.first) _ (in_place f.result f.second) _ e.taken (r absent_field).0 a.0 b.0 e.short (r absent_field).1.0 a.1.0 b.1.0 k.1.0 (r f.first).1.1.0 (r f.second).1.1.0 (r f.control).1.1.0
+    passing _ _ _ _ _ _ _ _ _ _ (in_place f.result f.first) _ (in_place f.result f.second) _ (ap off_half_words e.goes_on) (r absent_field).0 a.0 b.0 e.short (r absent_field).1.0 a.1.0 b.1.0 k.1.0 (r f.first).1.1.0 (r f.second).1.1.0 (r f.control).1.1.0
 
 -- ---- an instruction with no items
 
@@ -88,7 +89,7 @@ vector_empty w o u one e = record {
   second = source_bare (one || g_bit 4 w) o.b (length_in o.c) e;
   control = bare_or (eqb (field 64 48 8 w) 0) absent_field (field_of Bit (base_in o.z) (length_in o.c)) refl (no_bits Bit (base_in o.z) (length_in o.c) e);
   short = rw (short_not (g_bit 3 w) o.a (length_in o.c) e, short_not (one || g_bit 4 w) o.b (length_in o.c) e);
-  taken = refl;
+  goes_on = refl;
 }
 
 zeros_bare : (d n : ℕ) → n ≡ 0 → Bare (zeros_of d n)
@@ -106,7 +107,7 @@ compress_empty o e = record {
   second = refl;
   control = refl;
   short = refl;
-  taken = refl;
+  goes_on = refl;
 }
 
 -- merge and mask, by how far they read
@@ -117,7 +118,7 @@ woven_empty o past_r past_s n e = record {
   second = zeros_bare (S o) _ (none_read past_s n e);
   control = refl;
   short = refl;
-  taken = refl;
+  goes_on = refl;
 }
 
 move_empty : (o : Operands) → length_in o.c ≡ 0 → Empty (move_of o)
@@ -127,7 +128,7 @@ move_empty o e = record {
   second = refl;
   control = refl;
   short = refl;
-  taken = refl;
+  goes_on = refl;
 }
 
 work_empty : (k : Work) (w : ℕ) (o : Operands) → items_of (plan_by k w o) ≡ 0 → Empty (of_kind (kind_for (works k)) w o)

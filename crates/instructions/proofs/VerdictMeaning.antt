@@ -1,6 +1,8 @@
 -- What it means that 8 to 11 let an instruction pass, in bits: its fields begin at multiples of their units, lie in memory, and the result shares no bit with a
 -- source or the control field, or begins at a word source's start. The loops count bits from the start of memory, so the laws are in these offsets.
-use mathlib.Core.Path.{◌≡◌, refl, ap}
+use mathlib.Core.Path.{◌≡◌, refl, sym, ap, ◌∙◌}
+use Rattle.std.specs.Prelude.{Some}
+use Rattle.fields.specs.declared.units.BitAddress.{BitAddress}
 use mathlib.Core.Bool.{Bool, true, false}
 use mathlib.Core.Logic.{◌⊎◌, inl, inr}
 use Prim.Native.Nat.{ℕ, ◌+◌, ◌-◌, ◌*◌, ◌%◌, ◌≤◌, ◌<◌}
@@ -15,7 +17,7 @@ use Rattle.fields.proofs.FieldMeaning.{Multiple, aligned_multiple, inside_ends, 
 use Rattle.instructions.specs.declared.operands.Operands.{Operands}
 use Rattle.instructions.specs.declared.layout.Fields.{Fields}
 use Rattle.instructions.specs.Layout.{fields_of}
-use Rattle.instructions.specs.Verdict.{checks, case_of, misaligned, outside, clash, overlapping, verdict_of}
+use Rattle.instructions.specs.Verdict.{checks, case_of, off_half_words, misaligned, outside, clash, overlapping, verdict_of}
 use Rattle.instructions.proofs.VerdictTests.{both_false, and_not}
 use Rattle.instructions.proofs.VerdictOrder.{Passes, end, next, verdict_none}
 
@@ -67,7 +69,7 @@ pub record Passed (f : Fields) (n : ℕ) : Type 0 where
   pub result_aligned : aligned f.result ≡ true
   pub first_aligned : aligned f.first ≡ true
   pub second_aligned : aligned f.second ≡ true
-  pub target_aligned : f.taken ≡ true → f.target.0 % 32 ≡ 0
+  pub target_aligned : (a : BitAddress) → f.target ≡ Some a → a.0 % 32 ≡ 0
   pub enough : f.short ≡ false
   pub result_inside : inside f.result n ≡ true
   pub first_inside : inside f.first n ≡ true
@@ -93,7 +95,7 @@ module _ (f : Fields) (n : ℕ) where
         result_aligned = not-false _ b.0;
         first_aligned = not-false _ c.0;
         second_aligned = not-false _ c.1;
-        target_aligned = λ t. eqb-true _ _ (and_not _ _ a.0 t);
+        target_aligned = λ b t. eqb-true _ _ (not-false _ (sym (ap off_half_words t) ∙ a.0));
         enough = s;
         result_inside = not-false _ d.0;
         first_inside = not-false _ e.0;

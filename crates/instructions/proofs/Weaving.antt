@@ -3,8 +3,10 @@ use mathlib.Core.Path.{◌≡◌, refl, sym, ap, ap₂, ◌∙◌}
 use mathlib.Core.Logic.{inl, inr, ⊎_elim}
 use mathlib.Core.Bool.{Bool, true, false, cond}
 use mathlib.Core.List.{List}
+use Rattle.std.specs.Prelude.{Option, Some, None}
 use Prim.Native.Nat.{ℕ, zero, suc, ◌+◌, ◌-◌, ◌*◌, ◌/◌, ◌%◌, ◌^◌, ◌≤◌, ◌<◌, min}
-use native.Mathlib.Nat.{mod-lt, mod-eq_of_lt, add-mul, div-add-mod', div-le_self, div-eq_of_lt-le, eq-or-lt_of_le, mul-le-mul}
+use native.Mathlib.Nat.{mod-lt, mod-eq_of_lt, add-mul, div-add-mod', div-le_self, eq-or-lt_of_le, mul-le-mul}
+use Rattle.std.proofs.lemmas.Nat.{div-mul-add, mod-mul-add}
 use native.Mathlib.Omega.{arith}
 use borrow.Author.Tests.{lt-ltb, le-ltb, eq-eqb, ne_eqb, ltb-true, ltb-false}
 use lib.Dec.{ltb}
@@ -16,34 +18,24 @@ use Rattle.fields.specs.Field.{field, store, Apart}
 use Rattle.fields.specs.Bytes.{num, size}
 use Rattle.fields.specs.Memory.{Kept}
 use Rattle.fields.proofs.Places.{field_lt, field_other, field_join, store_join, field_none, store_none}
-use Rattle.instructions.specs.declared.bitruns.Sides.{Sides}
-use Rattle.instructions.specs.declared.bitruns.Period.{Period}
 use Rattle.instructions.specs.declared.bitruns.Cursor.{Cursor}
+use Rattle.instructions.specs.declared.bitruns.Weave.{Weave}
 use Rattle.instructions.specs.Items.{Place, bits, fixed, value_at, stored_at, made_at, item_at, flags_at, worked, turn, turns}
-use Rattle.instructions.specs.Plan.{taken_shape}
-use Rattle.instructions.specs.Private.Loops.{cursor_at, cursor_on, left_at, woven_at, RoomFor, Paced, ReadyBits}
+use Rattle.instructions.specs.Plan.{taken_shape, second_bit}
+use Rattle.instructions.specs.Private.Loops.{period_bits, cursor_at, cursor_on, left_at, woven_at, woven_shape, Room, RoomFor, ReadyBits}
 use Rattle.instructions.proofs.Agree.{resume}
 
 -- ---- the cursor
 
-pub within : (i p k : ℕ) → 0 < p → i % p + k < p → ((i + k) / p ≡ i / p) × ((i + k) % p ≡ i % p + k)
-within i p k hp h =
-    let d : i / p * p + i % p ≡ i = div-add-mod' i p in
-    let m : (i / p + 1) * p ≡ i / p * p + 1 * p = add-mul (i / p) 1 p in
-    let q : (i + k) / p ≡ i / p = div-eq_of_lt-le p (omega arith) (omega arith) in
-    let d' : (i + k) / p * p + (i + k) % p ≡ i + k = div-add-mod' (i + k) p in
-    let e : (i + k) / p * p ≡ i / p * p = ap (λ (x : ℕ). x * p) q in
-    (q, omega arith)
+pub within : (i p k : ℕ) → i % p + k < p → ((i + k) / p ≡ i / p) × ((i + k) % p ≡ i % p + k)
+within i p k h =
+    let e : i + k ≡ i / p * p + (i % p + k) = omega (arith, div-add-mod' i p) in
+    (ap (λ (y : ℕ). y / p) e ∙ div-mul-add (i / p) p (i % p + k) h, ap (λ (y : ℕ). y % p) e ∙ mod-mul-add (i / p) p (i % p + k) h)
 
 pub past : (i p k : ℕ) → 0 < p → i % p + k ≡ p → ((i + k) / p ≡ i / p + 1) × ((i + k) % p ≡ 0)
 past i p k hp h =
-    let d : i / p * p + i % p ≡ i = div-add-mod' i p in
-    let m : (i / p + 1) * p ≡ i / p * p + 1 * p = add-mul (i / p) 1 p in
-    let m' : (i / p + 1 + 1) * p ≡ (i / p + 1) * p + 1 * p = add-mul (i / p + 1) 1 p in
-    let q : (i + k) / p ≡ i / p + 1 = div-eq_of_lt-le p (omega arith) (omega arith) in
-    let d' : (i + k) / p * p + (i + k) % p ≡ i + k = div-add-mod' (i + k) p in
-    let e : (i + k) / p * p ≡ (i / p + 1) * p = ap (λ (x : ℕ). x * p) q in
-    (q, omega arith)
+    let e : i + k ≡ (i / p + 1) * p + 0 = omega (arith, div-add-mod' i p, add-mul (i / p) 1 p) in
+    (ap (λ (y : ℕ). y / p) e ∙ div-mul-add (i / p + 1) p 0 hp, ap (λ (y : ℕ). y % p) e ∙ mod-mul-add (i / p + 1) p 0 hp)
 
 cursor : ℕ → ℕ → ℕ → Cursor
 cursor q r s = record { place = q; r = r; s = s }
@@ -54,33 +46,29 @@ three e f g = cc
 one_more : (a t x : ℕ) → (a + t * x) + x ≡ a + (t + 1) * x
 one_more a t x = omega (arith, add-mul t 1 x)
 
-pub cursor_on_lem : (d : Sides) (p : Period) (i n : ℕ) → 0 < p.bits → i % p.bits + n ≤ p.bits → cursor_on (cursor_at d p i) p n ≡ cursor_at d p (i + n)
+pub cursor_on_lem : (w : Weave) (i n : ℕ) → 0 < period_bits w.period → i % period_bits w.period + n ≤ period_bits w.period → cursor_on (cursor_at w i) w.period n ≡ cursor_at w (i + n)
 unfolding cursor_at cursor
-cursor_on_lem d p i n hp h =
+cursor_on_lem w i n hp h =
     ⊎_elim
-    (λ (e : i % p.bits + n ≡ p.bits). let k = past i p.bits n hp e in
-    rw (eq-eqb (i % p.bits + n) p.bits e, k.0, k.1) (three refl (one_more d.r (i / p.bits) p.first) (one_more d.s (i / p.bits) p.second)))
-    (λ (l : i % p.bits + n < p.bits). let k = within i p.bits n hp l in
-    rw (ne_eqb (i % p.bits + n) p.bits (λ e. omega arith), k.0, k.1) refl)
+    (λ (e : i % period_bits w.period + n ≡ period_bits w.period). let k = past i (period_bits w.period) n hp e in
+    rw (eq-eqb (i % period_bits w.period + n) (period_bits w.period) e, k.0, k.1) (three refl (one_more w.r (i / period_bits w.period) w.period.first) (one_more w.period.over (i / period_bits w.period) w.period.second)))
+    (λ (l : i % period_bits w.period + n < period_bits w.period). let k = within i (period_bits w.period) n l in
+    rw (ne_eqb (i % period_bits w.period + n) (period_bits w.period) (λ e. omega arith), k.0, k.1) refl)
     (eq-or-lt_of_le h)
 
-product : (t x : ℕ) → t ≤ 524288 → x ≤ 131072 → t * x ≤ 68719476736
-product t x h k = mul-le-mul {n₁ = t} {m₁ = x} {n₂ = 524288} {m₂ = 131072} h k
+product : (t x : ℕ) → t ≤ 524288 → x < 2 ^ 32 → t * x < 2 ^ 52
+product t x h k = let l : t * x ≤ 524288 * 4294967296 = mul-le-mul {n₁ = t} {m₁ = x} {n₂ = 524288} {m₂ = 4294967296} h (omega arith) in omega arith
 
--- what the cursor's sums come to
-pub record Near (u : Cursor) (p : Period) : Type 0 where
-  pub place : u.place < p.bits
-  pub r : u.r < 2 ^ 49
-  pub s : u.s < 2 ^ 49
-
-pub parts_fit : (t x y : ℕ) → t ≤ 524288 → x ≤ 131072 → y < 2 ^ 48 → (t * x ≤ 68719476736) × (y + t * x < 2 ^ 49)
-parts_fit t x y ht hx hy = let k = product t x ht hx in (k, omega arith)
-
-pub near : (d : Sides) (p : Period) (i : ℕ) → 0 < p.bits → i ≤ 524288 → Paced p → d.r < 2 ^ 48 → d.s < 2 ^ 48 → Near (cursor_at d p i) p
+-- what the cursor's numbers come to
+pub place_lt : (w : Weave) (i : ℕ) → 0 < period_bits w.period → (cursor_at w i).place < period_bits w.period
 unfolding cursor_at
-near d p i hp hi g hr hd =
-    let t : i / p.bits ≤ 524288 = omega (arith, div-le_self i p.bits) in
-    record { place = mod-lt i hp; r = (parts_fit (i / p.bits) p.first d.r t g.short_r hr).1; s = (parts_fit (i / p.bits) p.second d.s t g.short_s hd).1 }
+place_lt w i hp = mod-lt i hp
+
+pub near : (w : Weave) (i : ℕ) → i ≤ 524288 → w.r < 2 ^ 48 → w.period.first < 2 ^ 32 → w.period.second < 2 ^ 32 → w.period.over < 2 ^ 32 → ((cursor_at w i).r < 2 ^ 53) × ((cursor_at w i).s < 2 ^ 53)
+unfolding cursor_at
+near w i hi hr hf hs ho =
+    let t : i / period_bits w.period ≤ 524288 = omega (arith, div-le_self i (period_bits w.period)) in
+    (omega (arith, product (i / period_bits w.period) w.period.first t hf), omega (arith, product (i / period_bits w.period) w.period.second t hs))
 
 -- ---- the places of a run
 
@@ -88,35 +76,25 @@ abbrev pub along : Place → ℕ → Place
 along (bits a) j = bits (a + j)
 along (fixed v) j = fixed v
 
-pub run_places : (d : Sides) (p : Period) (i n j : ℕ) → 0 < p.bits → p.head ≤ p.bits → p.skipped ≤ p.head → n ≤ left_at (cursor_at d p i) p → j < n
-    → woven_at d p (i + j) ≡ along (woven_at d p i) j
+-- bits of S one after another
+pub second_along : (o : Option ℕ) (a b j : ℕ) → a ≡ b + j → second_bit o a ≡ along (second_bit o b) j
+second_along (Some s) a b j e = ap bits (omega arith)
+second_along None a b j e = refl
+
+pub run_places : (w : Weave) (i n j : ℕ) → 0 < period_bits w.period → n ≤ left_at (cursor_at w i) w.period → j < n → woven_at w (i + j) ≡ along (woven_at w i) j
 unfolding cursor_at
-run_places d p i n j hp hh hk hn hj = go (ltb (i % p.bits) p.head) refl hn
+run_places w i n j hp hn hj = go (ltb (i % period_bits w.period) w.period.head) refl hn
   where
-    q : ℕ
-    q = i % p.bits
-
-    t : ℕ
-    t = i / p.bits
-
-    stands : Bool → ℕ → ℕ → Place
-    stands b t' q' = cond b (bits (d.r + t' * p.first + q')) (cond d.some (bits (d.s + t' * p.second + (q' - p.skipped))) (fixed 0))
-
-    second : (h : Bool) (s' : ℕ) → p.head ≤ i % p.bits
-        → cond h (bits (s' + (i % p.bits + j - p.skipped))) (fixed 0) ≡ along (cond h (bits (s' + (i % p.bits - p.skipped))) (fixed 0)) j
-    second true s' l = ap bits (omega arith)
-    second false s' l = refl
-
-    go : (b : Bool) → ltb (i % p.bits) p.head ≡ b → n ≤ cond b (p.head - i % p.bits) (p.bits - i % p.bits)
-        → cond (ltb ((i + j) % p.bits) p.head) (bits (d.r + (i + j) / p.bits * p.first + (i + j) % p.bits)) (cond d.some (bits (d.s + (i + j) / p.bits * p.second + ((i + j) % p.bits - p.skipped))) (fixed 0))
-        ≡ along (cond b (bits (d.r + i / p.bits * p.first + i % p.bits)) (cond d.some (bits (d.s + i / p.bits * p.second + (i % p.bits - p.skipped))) (fixed 0))) j
+    go : (b : Bool) → ltb (i % period_bits w.period) w.period.head ≡ b → n ≤ cond b (w.period.head - i % period_bits w.period) (period_bits w.period - i % period_bits w.period)
+        → woven_at w (i + j)
+        ≡ along (cond b (bits (w.r + i / period_bits w.period * w.period.first + i % period_bits w.period)) (second_bit w.s (w.period.over + i / period_bits w.period * w.period.second + (i % period_bits w.period - w.period.head)))) j
     go true e l =
-        let k = within i p.bits j hp (omega arith) in
-        rw (k.0, k.1, lt-ltb (i % p.bits + j) p.head (omega arith)) (ap bits (omega arith))
+        let k = within i (period_bits w.period) j (omega arith) in
+        rw (k.0, k.1, lt-ltb (i % period_bits w.period + j) w.period.head (omega arith)) (ap bits (omega arith))
     go false e l =
-        let f : p.head ≤ i % p.bits = ltb-false (i % p.bits) p.head e in
-        let k = within i p.bits j hp (omega arith) in
-        rw (k.0, k.1, le-ltb (i % p.bits + j) p.head (omega arith)) (second d.some (d.s + i / p.bits * p.second) f)
+        let f : w.period.head ≤ i % period_bits w.period = ltb-false (i % period_bits w.period) w.period.head e in
+        let k = within i (period_bits w.period) j (omega arith) in
+        rw (k.0, k.1, le-ltb (i % period_bits w.period + j) w.period.head (omega arith)) (second_along w.s _ _ j (omega arith))
 
 -- ---- a run lies in memory and apart from the result
 
@@ -147,23 +125,23 @@ run_apart L c N a i n hn le h =
         (λ (k : a < c). let z = h (c - a) (omega arith) in no (a + (c - a)) (omega arith) (omega arith) z.1)
         (le_or_lt c a)
 
-module _ (m₀ : List ℕ) (d : Sides) (p : Period) (c N i n : ℕ) (h : ReadyBits m₀ d p c N) (g : Paced p) (hn : 0 < n) (le : i + n ≤ N) (hl : n ≤ left_at (cursor_at d p i) p) where
-  places : (j : ℕ) → j < n → woven_at d p (i + j) ≡ along (woven_at d p i) j
-  places j hj = run_places d p i n j h.some_bits g.part_r g.skips hl hj
+module _ (m₀ : List ℕ) (w : Weave) (N i n : ℕ) (h : ReadyBits m₀ w N) (hn : 0 < n) (le : i + n ≤ N) (hl : n ≤ left_at (cursor_at w i) w.period) where
+  pub places : (j : ℕ) → j < n → woven_at w (i + j) ≡ along (woven_at w i) j
+  places j hj = run_places w i n j h.some_bits hl hj
 
-  pub stands_clear : Runs (size m₀) c i n (woven_at d p i)
-  stands_clear = go (woven_at d p i) refl
+  pub stands_clear : Runs (size m₀) w.to i n (woven_at w i)
+  stands_clear = go (woven_at w i) refl
     where
-      zero_fixed : (v : ℕ) → woven_at d p i ≡ fixed v → v ≡ 0
-      zero_fixed v e = one (ltb (cursor_at d p i).place p.head) d.some e
+      zero_fixed : (v : ℕ) → woven_at w i ≡ fixed v → v ≡ 0
+      zero_fixed v e = one (ltb (cursor_at w i).place w.period.head) w.s e
         where
-          one : (t s : Bool) → cond t (bits ((cursor_at d p i).r + (cursor_at d p i).place)) (cond s (bits ((cursor_at d p i).s + ((cursor_at d p i).place - p.skipped))) (fixed 0)) ≡ fixed v → v ≡ 0
-          one true s e = let z : ◌≡◌ {A = ℕ} 0 1 = cc in absurd (omega arith)
-          one false true e = let z : ◌≡◌ {A = ℕ} 0 1 = cc in absurd (omega arith)
-          one false false e = cc
+          one : (t : Bool) (o : Option ℕ) → cond t (bits ((cursor_at w i).r + (cursor_at w i).place)) (second_bit o ((cursor_at w i).s + ((cursor_at w i).place - w.period.head))) ≡ fixed v → v ≡ 0
+          one true o e = let z : ◌≡◌ {A = ℕ} 0 1 = cc in absurd (omega arith)
+          one false (Some s) e = let z : ◌≡◌ {A = ℕ} 0 1 = cc in absurd (omega arith)
+          one false None e = cc
 
-      go : (q : Place) → woven_at d p i ≡ q → Runs (size m₀) c i n q
-      go (bits a) e = run_apart (size m₀) c N a i n hn le (λ j hj. h.clear (i + j) (a + j) (omega arith) (places j hj ∙ ap (λ (q : Place). along q j) e))
+      go : (q : Place) → woven_at w i ≡ q → Runs (size m₀) w.to i n q
+      go (bits a) e = run_apart (size m₀) w.to N a i n hn le (λ j hj. h.clear (i + j) (a + j) (omega arith) (places j hj ∙ ap (λ (q : Place). along q j) e))
       go (fixed v) e = zero_fixed v e
 
 -- ---- a run of items is one field
@@ -209,42 +187,47 @@ pub room_for : (m m₀ : List ℕ) (n c i : ℕ) (q : Place) → length m ≡ le
 room_for m m₀ n c i (bits a) e hs hw h0 hn h = record { small = omega arith; words = rw e hw; some = h0; few = hn; upto = omega (arith, h.0) }
 room_for m m₀ n c i (fixed v) e hs hw h0 hn h = tt
 
-pub weave_turn : (m₀ m m' : List ℕ) (d : Sides) (p : Period) (c N from done n v : ℕ) → ReadyBits m₀ d p c N → Paced p → 0 < n → from + done + n ≤ N → n ≤ left_at (cursor_at d p (from + done)) p
-    → length m ≡ length m₀ → v ≡ value_at (size m) n (woven_at d p (from + done)) (num m) → Kept m (c + (from + done)) n v m'
-    → (f : ℕ) → worked (num m) f ≡ turns (taken_shape c 1 (woven_at d p)) (size m₀) from done (worked (num m₀) f)
-    → worked (num m') f ≡ turns (taken_shape c 1 (woven_at d p)) (size m₀) from (done + n) (worked (num m₀) f)
-weave_turn m₀ m m' d p c N from done n v h g hn le hl len ev kp f inv =
+pub weave_turn : (m₀ m m' : List ℕ) (w : Weave) (N from done n v : ℕ) → ReadyBits m₀ w N → 0 < n → from + done + n ≤ N → n ≤ left_at (cursor_at w (from + done)) w.period
+    → length m ≡ length m₀ → v ≡ value_at (size m) n (woven_at w (from + done)) (num m) → Kept m (w.to + (from + done)) n v m'
+    → (f : ℕ) → worked (num m) f ≡ turns (woven_shape w) (size m₀) from done (worked (num m₀) f)
+    → worked (num m') f ≡ turns (woven_shape w) (size m₀) from (done + n) (worked (num m₀) f)
+weave_turn m₀ m m' w N from done n v h hn le hl len ev kp f inv =
     let es : size m ≡ size m₀ = ap (λ (k : ℕ). 8 * k) len in
     let i : ℕ = from + done in
-    ap (λ (y : ℕ). worked y f) (kp.holds ∙ ap₂ (λ (L q : ℕ). store L (c + i) n q (num m)) es (ev ∙ ap (λ (L : ℕ). value_at L n (woven_at d p i) (num m)) es))
-    ∙ sym (run_of_bits (size m₀) c i (num m) f (woven_at d p) n (woven_at d p i) (omega (arith, h.upto_c)) (λ j hj. places m₀ d p c N i n h g hn le hl j hj) (stands_clear m₀ d p c N i n h g hn le hl))
-    ∙ ap (turns (taken_shape c 1 (woven_at d p)) (size m₀) i n) inv
-    ∙ resume (taken_shape c 1 (woven_at d p)) (size m₀) from done n (worked (num m₀) f)
+    ap (λ (y : ℕ). worked y f) (kp.holds ∙ ap₂ (λ (L q : ℕ). store L (w.to + i) n q (num m)) es (ev ∙ ap (λ (L : ℕ). value_at L n (woven_at w i) (num m)) es))
+    ∙ sym (run_of_bits (size m₀) w.to i (num m) f (woven_at w) n (woven_at w i) (omega (arith, h.upto_c)) (λ j hj. places m₀ w N i n h hn le hl j hj) (stands_clear m₀ w N i n h hn le hl))
+    ∙ ap (turns (woven_shape w) (size m₀) i n) inv
+    ∙ resume (woven_shape w) (size m₀) from done n (worked (num m₀) f)
 
--- what the loop knows of the run of n bits that it works next
-pub record Turn (d : Sides) (p : Period) (c i N n : ℕ) : Type 0 where
+-- what the loop knows of the run of n bits that it works next, in a memory m
+pub record Turn (m : List ℕ) (w : Weave) (i N n : ℕ) : Type 0 where
   pub some : 0 < n
   pub few : n ≤ 64
   pub upto : i + n ≤ N
-  pub left : n ≤ left_at (cursor_at d p i) p
-  pub period : i % p.bits + n ≤ p.bits
-  pub word : (c + i) % 64 + n ≤ 64
-  pub close : Near (cursor_at d p i) p
+  pub left : n ≤ left_at (cursor_at w i) w.period
+  pub period : i % period_bits w.period + n ≤ period_bits w.period
+  pub word : (w.to + i) % 64 + n ≤ 64
+  pub room : RoomFor m n (woven_at w i)
+  pub room_to : Room m (w.to + i) n
+  pub small : value_at (size m) n (woven_at w i) (num m) < 2 ^ n
 
-left_is : (d : Sides) (p : Period) (i : ℕ) → 0 < p.bits → p.head ≤ p.bits → (0 < left_at (cursor_at d p i) p) × (i % p.bits + left_at (cursor_at d p i) p ≤ p.bits)
+left_is : (w : Weave) (i : ℕ) → 0 < period_bits w.period → (0 < left_at (cursor_at w i) w.period) × (i % period_bits w.period + left_at (cursor_at w i) w.period ≤ period_bits w.period)
 unfolding cursor_at
-left_is d p i hp hh = go (ltb (i % p.bits) p.head) refl
+left_is w i hp = go (ltb (i % period_bits w.period) w.period.head) refl
   where
-    go : (t : Bool) → ltb (i % p.bits) p.head ≡ t → (0 < cond t (p.head - i % p.bits) (p.bits - i % p.bits)) × (i % p.bits + cond t (p.head - i % p.bits) (p.bits - i % p.bits) ≤ p.bits)
-    go true e = let l = ltb-true (i % p.bits) p.head e in (omega arith, omega arith)
-    go false e = let l : i % p.bits < p.bits = mod-lt i hp in (omega arith, omega arith)
+    go : (t : Bool) → ltb (i % period_bits w.period) w.period.head ≡ t
+        → (0 < cond t (w.period.head - i % period_bits w.period) (period_bits w.period - i % period_bits w.period))
+        × (i % period_bits w.period + cond t (w.period.head - i % period_bits w.period) (period_bits w.period - i % period_bits w.period) ≤ period_bits w.period)
+    go true e = let l = ltb-true (i % period_bits w.period) w.period.head e in (omega arith, omega arith)
+    go false e = let l : i % period_bits w.period < period_bits w.period = mod-lt i hp in (omega arith, omega arith)
 
-pub next_turn : (m₀ : List ℕ) (d : Sides) (p : Period) (c from count done l s n : ℕ) (u : Cursor) → ReadyBits m₀ d p c (from + count) → Paced p → done < count → u ≡ cursor_at d p (from + done)
-    → l ≡ left_at u p → s ≡ min l (count - done) → n ≡ min s (64 - (c + (from + done)) % 64) → Turn d p c (from + done) (from + count) n
-next_turn m₀ d p c from count done l s n u h g hd eu el es en =
-    let k = left_is d p (from + done) h.some_bits g.part_r in
-    let e : l ≡ left_at (cursor_at d p (from + done)) p = el ∙ ap (λ (v : Cursor). left_at v p) eu in
-    let f = facts (left_at (cursor_at d p (from + done)) p) ((from + done) % p.bits) e k.0 k.1 in
+pub next_turn : (m₀ m : List ℕ) (w : Weave) (from count done n : ℕ) → ReadyBits m₀ w (from + count) → length m ≡ length m₀ → done < count
+    → n ≡ min (min (left_at (cursor_at w (from + done)) w.period) (count - done)) (64 - (w.to + (from + done)) % 64) → Turn m w (from + done) (from + count) n
+next_turn m₀ m w from count done n h len hd en =
+    let k = left_is w (from + done) h.some_bits in
+    let f = facts (left_at (cursor_at w (from + done)) w.period) ((from + done) % period_bits w.period) en k.0 k.1 in
+    let r : Runs (size m) w.to (from + done) n (woven_at w (from + done)) =
+    rw (← len) at (stands_clear m₀ w (from + count) (from + done) n h f.0 f.1 f.2) in
     record {
       some = f.0;
       few = omega arith;
@@ -252,8 +235,11 @@ next_turn m₀ d p c from count done l s n u h g hd eu el es en =
       left = f.2;
       period = f.3;
       word = omega arith;
-      close = near d p (from + done) h.some_bits (omega (arith, h.upto_c, h.small)) g h.near_r h.near_s;
+      room = room_for m m₀ n w.to (from + done) (woven_at w (from + done)) len h.small h.words f.0 (omega arith) (rw len at r);
+      room_to = record { small = omega (arith, h.small); words = rw len h.words; some = f.0; few = omega arith; upto = omega (arith, h.upto_c, f.1) };
+      small = value_small (size m) n (woven_at w (from + done)) (num m) w.to (from + done) r;
     }
   where
-    facts : (a q : ℕ) → l ≡ a → 0 < a → q + a ≤ p.bits → (0 < n) × (from + done + n ≤ from + count) × (n ≤ a) × (q + n ≤ p.bits)
+    facts : (a q : ℕ) → n ≡ min (min a (count - done)) (64 - (w.to + (from + done)) % 64) → 0 < a → q + a ≤ period_bits w.period
+        → (0 < n) × (from + done + n ≤ from + count) × (n ≤ a) × (q + n ≤ period_bits w.period)
     facts a q e k k' = (omega arith, omega arith, omega arith, omega arith)

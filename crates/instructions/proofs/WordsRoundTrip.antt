@@ -8,11 +8,10 @@ use native.Mathlib.Omega.{arith}
 use lib.Pow.{mod-pow-add}
 use Rattle.fields.specs.Field.{field}
 use Rattle.fields.specs.Bytes.{num}
+use Rattle.instructions.specs.declared.table.Row.{Row}
 use Rattle.instructions.specs.declared.words.Parts.{Parts}
 use Rattle.instructions.specs.declared.words.Refusal.{Refusal}
-use Rattle.instructions.specs.declared.words.Decoded.{Decoded}
-use Rattle.instructions.specs.declared.words.Reading.{Reading}
-use Rattle.instructions.specs.declared.words.Assembled.{Assembled}
+use Rattle.std.specs.Prelude.{Result, Ok, Err}
 use Rattle.instructions.specs.Words.{parts_of, joined, decoded, reading_at, reading, assembled_at, assembled}
 
 -- each part is a byte
@@ -64,43 +63,43 @@ joined_apart w h =
 
 -- ---- a listed word read and put together is the same word
 
-pub read_assembled : (w : ℕ) (p : Parts) → w < 2 ^ 64 → reading w ≡ Reading.Listed p → assembled p ≡ Assembled.Word w
+pub read_assembled : (w : ℕ) (p : Parts) → w < 2 ^ 64 → reading w ≡ Ok p → assembled p ≡ Ok w
 unfolding reading assembled
 read_assembled w p h e = go (decoded w) refl e
   where
-    go : (d : Decoded) → decoded w ≡ d → reading_at w d ≡ Reading.Listed p → assembled_at (joined p) (decoded (joined p)) ≡ Assembled.Word w
-    go (Decoded.Listed r) k e =
+    go : (d : Result Row Refusal) → decoded w ≡ d → reading_at w d ≡ Ok p → assembled_at (joined p) (decoded (joined p)) ≡ Ok w
+    go (Ok r) k e =
         let i : parts_of w ≡ p = cc in
         let j : joined p ≡ w = ap joined (sym i) ∙ joined_apart w h in
         rw (j, k)
-    go (Decoded.Refused n) k e = cc
+    go (Err n) k e = cc
 
 -- ---- accepted parts read back the same
 
-pub assembled_read : (p : Parts) (w : ℕ) → Whole p → assembled p ≡ Assembled.Word w → reading w ≡ Reading.Listed p
+pub assembled_read : (p : Parts) (w : ℕ) → Whole p → assembled p ≡ Ok w → reading w ≡ Ok p
 unfolding reading assembled
 assembled_read p w h e = go (decoded (joined p)) refl e
   where
-    go : (d : Decoded) → decoded (joined p) ≡ d → assembled_at (joined p) d ≡ Assembled.Word w → reading_at w (decoded w) ≡ Reading.Listed p
-    go (Decoded.Listed r) k e =
+    go : (d : Result Row Refusal) → decoded (joined p) ≡ d → assembled_at (joined p) d ≡ Ok w → reading_at w (decoded w) ≡ Ok p
+    go (Ok r) k e =
         let j : joined p ≡ w = cc in
-        rw (← j, k) (ap Reading.Listed (apart_joined p h))
-    go (Decoded.Refused n) k e = cc
+        rw (← j, k) (ap Ok (apart_joined p h))
+    go (Err n) k e = cc
 
 -- ---- what is refused is refused alike, with the same number
 
-pub refused_alike : (p : Parts) (n : Refusal) → assembled p ≡ Assembled.Refused n → reading (joined p) ≡ Reading.Refused n
+pub refused_alike : (p : Parts) (n : Refusal) → assembled p ≡ Err n → reading (joined p) ≡ Err n
 unfolding reading assembled
 refused_alike p n e = go (decoded (joined p)) e
   where
-    go : (d : Decoded) → assembled_at (joined p) d ≡ Assembled.Refused n → reading_at (joined p) d ≡ Reading.Refused n
-    go (Decoded.Listed r) e = cc
-    go (Decoded.Refused m) e = ap Reading.Refused cc
+    go : (d : Result Row Refusal) → assembled_at (joined p) d ≡ Err n → reading_at (joined p) d ≡ Err n
+    go (Ok r) e = cc
+    go (Err m) e = ap Err cc
 
-pub read_refused_alike : (w : ℕ) (n : Refusal) → w < 2 ^ 64 → reading w ≡ Reading.Refused n → assembled (parts_of w) ≡ Assembled.Refused n
+pub read_refused_alike : (w : ℕ) (n : Refusal) → w < 2 ^ 64 → reading w ≡ Err n → assembled (parts_of w) ≡ Err n
 unfolding reading assembled
 read_refused_alike w n h e = rw (joined_apart w h) (go (decoded w) e)
   where
-    go : (d : Decoded) → reading_at w d ≡ Reading.Refused n → assembled_at w d ≡ Assembled.Refused n
-    go (Decoded.Listed r) e = cc
-    go (Decoded.Refused m) e = ap Assembled.Refused cc
+    go : (d : Result Row Refusal) → reading_at w d ≡ Err n → assembled_at w d ≡ Err n
+    go (Ok r) e = cc
+    go (Err m) e = ap Err cc

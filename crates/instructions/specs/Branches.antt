@@ -1,5 +1,5 @@
 -- Compare and branch (codes B0 to B5): section 6 of docs/MACHINE.md.
-use Rattle.std.specs.Prelude.{Bool, false, cond, ℕ}
+use Rattle.std.specs.Prelude.{Bool, false, cond, ℕ, Option, Some, None}
 use Rattle.fields.specs.declared.units.BitAddress.{BitAddress}
 use Rattle.fields.specs.Field.{field}
 use Rattle.fields.specs.declared.extents.Unit.TheVariants.{HalfWord}
@@ -7,7 +7,6 @@ use Rattle.numbers.specs.Words.{sum_of}
 use Rattle.instructions.specs.declared.operands.Operands.{Operands}
 use Rattle.instructions.specs.declared.effects.Outcome.{Outcome}
 use Rattle.instructions.specs.declared.effects.Effect.TheVariants.{Register}
-use Rattle.instructions.specs.declared.effects.Next.TheVariants.{Following, Target}
 use Rattle.instructions.specs.Meanings.{Meaning, unlisted, exits, acts, branches, works}
 use Rattle.instructions.specs.Operands.{meaning_in, g_bit, indexed}
 
@@ -31,10 +30,14 @@ taken_of w o = compares_by (meaning_in w) (g_bit 4 w) (branch_sum o) o.z
 abbrev pub target_of : Operands → BitAddress
 target_of o = indexed HalfWord o.b o.y
 
+-- §6.4: the target, where the branch is taken.
+abbrev pub goes_to : ℕ → Operands → Option BitAddress
+goes_to w o = cond (taken_of w o) (Some (target_of o)) None
+
 -- §6.1, §6.4: the sum goes to C either way; P goes to the target where the branch is taken.
 unfoldable pub branch_of : ℕ → Operands → Outcome
 branch_of w o = record {
   effect = Register (field 64 56 8 w) (branch_sum o);
   flags = 0;
-  next = cond (taken_of w o) (Target (target_of o)) Following;
+  target = goes_to w o;
 }

@@ -1,13 +1,12 @@
 -- What an instruction of one step changes, and memory and registers afterwards: sections 1, 5 and 6 of docs/MACHINE.md.
-use Rattle.std.specs.Prelude.{List, ℕ, ◌-◌, ◌*◌, ◌/◌, ◌%◌, get_or, set}
+use Rattle.std.specs.Prelude.{List, ℕ, ◌-◌, ◌*◌, ◌/◌, ◌%◌, get_or, set, Option, Some, None}
 use Rattle.fields.specs.Field.{store}
 use Rattle.fields.specs.Memory.{origin}
 use Rattle.fields.specs.Units.{formed}
 use Rattle.instructions.specs.declared.effects.Effect.{Effect}
 use Rattle.instructions.specs.declared.effects.Effect.TheVariants.{Nothing, Register, HalfRegister, Byte, Word}
 use Rattle.instructions.specs.declared.effects.Outcome.{Outcome}
-use Rattle.instructions.specs.declared.effects.Next.{Next}
-use Rattle.instructions.specs.declared.effects.Next.TheVariants.{Following, Target}
+use Rattle.fields.specs.declared.units.BitAddress.{BitAddress}
 
 -- §1.3: the first bit of half word t in its register.
 abbrev pub half_at : ℕ → ℕ
@@ -35,9 +34,9 @@ memory_after (Word a v) L x = store L (a.0 - origin) 64 v x
 
 -- §5.1: an effect with the flags that it raises; the word behind is next.
 abbrev pub falls_through : Effect → ℕ → Outcome
-falls_through e f = record { effect = e; flags = f; next = Following }
+falls_through e f = record { effect = e; flags = f; target = None }
 
 -- §5.1, §6.4: the next P: a taken target, else past the word of so many bits at p.
-abbrev pub next_p : ℕ → ℕ → Next → ℕ
-next_p p bits Following = formed p bits
-next_p p bits (Target a) = a.0
+abbrev pub next_p : ℕ → ℕ → Option BitAddress → ℕ
+next_p p bits None = formed p bits
+next_p p bits (Some a) = a.0

@@ -1,11 +1,10 @@
 -- Examples as one table: 1 to 5, 7 and 9 to 14 of those that section 15 of docs/MACHINE.md counts. A row is an instruction, what it is given and what
 -- it comes to by the definitions of this crate: the operands are gathered from the registers, of which the first are given, and memory is 8 bytes.
-use Rattle.std.specs.Prelude.{◌≡◌, Bool, true, false, cond, List, [], ◌∷◌, ℕ, ◌+◌, ◌*◌, ◌^◌}
+use Rattle.std.specs.Prelude.{◌≡◌, Bool, true, false, cond, List, [], ◌∷◌, ℕ, ◌+◌, ◌*◌, ◌^◌, Some, None}
 use Rattle.numbers.specs.Flags.{flag}
 use Rattle.fields.specs.Bytes.{num}
 use Rattle.instructions.specs.declared.effects.Outcome.{Outcome}
 use Rattle.instructions.specs.declared.effects.Effect.TheVariants.{Register, HalfRegister}
-use Rattle.instructions.specs.declared.effects.Next.TheVariants.{Following, Target}
 use Rattle.instructions.specs.Operands.{gathered}
 use Rattle.instructions.specs.Effects.{falls_through}
 use Rattle.instructions.specs.Scalars.{scalar_of}
@@ -54,7 +53,7 @@ Holds (of_bits code first second r s n t) =
     worked_at (word7 code) (0 ∷ descriptor r 0x4000 ∷ descriptor s 0x4008 ∷ descriptor n 0x4010 ∷ []) (three_bytes first second 0)
     ≡ worked (three_bytes first second t) 0
 Holds (of_branch w a c taken) =
-    outcome_at w (0 ∷ a ∷ 0x4000 ∷ 0 ∷ 3 ∷ []) ≡ record { effect = Register 3 c; flags = 0; next = cond taken (Target (record { 0 = 0x4060 })) Following }
+    outcome_at w (0 ∷ a ∷ 0x4000 ∷ 0 ∷ 3 ∷ []) ≡ record { effect = Register 3 c; flags = 0; target = cond taken (Some (record { 0 = 0x4060 })) None }
 
 -- What all rows of a table say.
 abbrev pub Each : List Example → Type 0

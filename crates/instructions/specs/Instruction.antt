@@ -57,7 +57,7 @@ leaving m r p f = record { memory = m; registers = r; p = p; flags = f }
 -- §5.1, §4.4: an outcome, applied; its flags are added to those that are set.
 abbrev pub done_by : Outcome → ℕ → ℕ → ℕ → ℕ → List ℕ → ℕ → Done
 done_by u p bits bytes m r f =
-    leaving (memory_after u.effect (8 * bytes) m) (registers_after u.effect r) (next_p p bits u.next) (bit_or f u.flags)
+    leaving (memory_after u.effect (8 * bytes) m) (registers_after u.effect r) (next_p p bits u.target) (bit_or f u.flags)
 
 -- §5.1, §10.3: what a word that does not go by items leaves.
 unfoldable pub acts_of : ℕ → ℕ → Operands → ℕ → ℕ → List ℕ → ℕ → Done

@@ -3,7 +3,7 @@
 use Rattle.std.specs.Prelude.{Bool, cond, ℕ, zero, suc, ◌+◌, ◌*◌, ◌%◌, ◌^◌, eqb}
 use Rattle.std.specs.Int.Bits.{bit_or}
 use Rattle.fields.specs.Field.{field, store, side_by_side}
-use Rattle.instructions.specs.declared.items.Made.{Made}
+use Rattle.numbers.specs.declared.flags.Made.{Made}
 
 -- §7.2, §7.4, §8.2, §9.3: what an item reads: bits of memory from one on, or a value: a broadcast register, zeros for S, the byte B.
 pub data Place : Type 0 where
@@ -19,7 +19,7 @@ pub record Shape : Type 0 where
   pub unit : ℕ  -- the bits of a source item
   pub result : ℕ  -- the first bit of the result field
   pub width : ℕ  -- the bits of a result item
-  pub makes : ℕ → ℕ → Made
+  pub makes : ℕ → ℕ → Made ℕ
 
 -- §7.2, §7.4: the n bits at a place of the memory x, or the value itself.
 abbrev pub value_at : ℕ → ℕ → Place → ℕ → ℕ
@@ -31,7 +31,7 @@ unfoldable pub stored_at : Shape → ℕ → ℕ → ℕ → Bool
 stored_at s L i x = eqb (value_at L 1 (s.control i) x) s.sense
 
 -- §7.7: what is made of the sources of item i, as the memory x holds them.
-unfoldable pub made_at : Shape → ℕ → ℕ → ℕ → Made
+unfoldable pub made_at : Shape → ℕ → ℕ → ℕ → Made ℕ
 made_at s L i x = s.makes (value_at L s.unit (s.first i) x) (value_at L s.unit (s.second i) x)
 
 -- §7.2: the first bit of result item i.

@@ -1,5 +1,5 @@
 -- The fields of an instruction: where its result, its sources and its control field lie, and how far they run. §12.18 of docs/MACHINE.md lists them.
-use Rattle.std.specs.Prelude.{Bool, true, false, cond, not, ◌&&◌, ◌||◌, ℕ, min, eqb, ltb}
+use Rattle.std.specs.Prelude.{Bool, true, false, cond, not, ◌&&◌, ◌||◌, ℕ, min, eqb, ltb, None}
 use Rattle.numbers.specs.Words.{low48}
 use Rattle.fields.specs.declared.extents.Unit as U
 use Rattle.fields.specs.declared.extents.Unit.TheVariants.{Bit, Byte, HalfWord, Word}
@@ -11,14 +11,14 @@ use Rattle.fields.specs.Gathers.{compress_items, merge_items, compress_r, merge_
 use Rattle.instructions.specs.declared.operands.Operands.{Operands}
 use Rattle.instructions.specs.declared.layout.Fields.{Fields}
 use Rattle.instructions.specs.Operands.{found_in, row_says, g_bit, R, S, T, length_in, base_in, indexed, address_in}
-use Rattle.instructions.specs.Branches.{taken_of, target_of}
+use Rattle.instructions.specs.Branches.{goes_to}
 use Rattle.instructions.specs.declared.table.Kind.{Kind}
 use Rattle.instructions.specs.Table.{kind_of}
 
 -- The fields of an instruction that is no branch; `short` is what refusal 9 asks.
 abbrev pub fields_at : Field → Field → Field → Field → Bool → Fields
 fields_at result first second control short =
-    record { result = result; first = first; second = second; control = control; short = short; taken = false; target = record { 0 = 0 } }
+    record { result = result; first = first; second = second; control = control; short = short; target = None }
 
 -- §12.18: an exit and what works on registers alone have none.
 abbrev pub no_fields : Fields
@@ -115,8 +115,7 @@ branch_fields w o =
       second = absent_field;
       control = absent_field;
       short = false;
-      taken = taken_of w o;
-      target = target_of o;
+      target = goes_to w o;
     }
 
 -- ---- by kind

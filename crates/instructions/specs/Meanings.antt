@@ -1,25 +1,17 @@
 -- What an instruction means: what is made of its operands, and where that goes. Sections 5 to 9 of docs/MACHINE.md.
 use Rattle.std.specs.Prelude.{Bool, true, false, cond, ℕ, eqb, ltb}
 use Rattle.std.specs.Int.Signed.{lt_z}
-use Rattle.numbers.specs.declared.flags.WordResult.{WordResult}
-use Rattle.numbers.specs.declared.flags.HalfWordResult.{HalfWordResult}
 use Rattle.numbers.specs.Number.{coefficient_at}
 use Rattle.numbers.specs.Words.{low48}
-use Rattle.instructions.specs.declared.items.Made.{Made}
-use Rattle.instructions.specs.declared.items.Rule.{Rule}
+use Rattle.numbers.specs.declared.flags.Made.{Made}
+use Rattle.fields.specs.declared.gathers.Rule.{Rule}
 use Rattle.instructions.specs.declared.table.Kind.{Kind}
 
 -- ---- what is made
 
--- §4.4: a word that raises no flags, and a word or a half word with those that it raises.
-abbrev pub plain : ℕ → Made
+-- §4.4: a word that raises no flags.
+abbrev pub plain : ℕ → Made ℕ
 plain w = record { item = w; flags = 0 }
-
-abbrev pub of_word : WordResult → Made
-of_word r = record { item = r.word; flags = r.flags }
-
-abbrev pub of_half : HalfWordResult → Made
-of_half r = record { item = r.half; flags = r.flags }
 
 -- ---- what is compared
 
@@ -35,17 +27,17 @@ less unsigned m n = cond unsigned (ltb (low48 m) (low48 n)) (lt_z (coefficient_a
 
 -- §5.1: a register instruction: one step, with registers and one byte or word of memory.
 pub data Act : Type 0 where
-  to_t : (ℕ → ℕ → Made) → Act  -- T becomes what is made of R and S
-  to_half_t : (ℕ → ℕ → Made) → Act  -- T, a half word, becomes it
+  to_t : (ℕ → ℕ → Made ℕ) → Act  -- T becomes what is made of R and S
+  to_half_t : (ℕ → ℕ → Made ℕ) → Act  -- T, a half word, becomes it
   loads_byte loads_word : Act  -- §5.4, §5.20: T becomes what is at R plus S bytes, or words
   stores_byte stores_word : Act  -- §5.5, §5.21: what is there becomes the right byte of T, or T
 
 -- §10.2: a vector, bit or move instruction: item by item.
 pub data Work : Type 0 where
   gathers : Rule → Work  -- §8.4, §8.5, §8.6: a bit of T becomes one of R or S
-  each_of_a_b : (ℕ → ℕ → Made) → Work  -- §7.8, §7.9, §7.10: a word of C becomes what is made of those of A and B
-  each_of_a : (ℕ → Made) → Work  -- §7.11, §7.12, §7.13, §7.16: .. of A alone
-  half_of_a : (ℕ → Made) → Work  -- §7.14, §7.15: a half word of C becomes what is made of a word of A
+  each_of_a_b : (ℕ → ℕ → Made ℕ) → Work  -- §7.8, §7.9, §7.10: a word of C becomes what is made of those of A and B
+  each_of_a : (ℕ → Made ℕ) → Work  -- §7.11, §7.12, §7.13, §7.16: .. of A alone
+  half_of_a : (ℕ → Made ℕ) → Work  -- §7.14, §7.15: a half word of C becomes what is made of a word of A
   moves : Work  -- §9.1: a byte of C becomes one of A, or the byte B itself
 
 -- §3.8: what a code means.

@@ -3,7 +3,7 @@
 --    |  F  |  G  |  X  |  A  |  Y  |  B  |  Z  |  C  |     formats 1, 3, C
 --    |  F  |  R  |  S  |  T  |                             formats 4, 7, A (S zero)
 --    0     8     16    24    32    40    48    56    64
-use Rattle.std.specs.Prelude.{Bool, cond, List, ℕ, ◌+◌, eqb, get_or}
+use Rattle.std.specs.Prelude.{Bool, cond, List, ℕ, ◌+◌, eqb, get_or, Option, Some, None}
 use Rattle.numbers.specs.Words.{low48}
 use Rattle.fields.specs.declared.units.BitAddress.{BitAddress}
 use Rattle.fields.specs.declared.extents.Unit as U
@@ -12,8 +12,6 @@ use Rattle.fields.specs.Units.{in_bits, formed}
 use Rattle.fields.specs.Extents.{unit_shift}
 use Rattle.instructions.specs.declared.operands.Operands.{Operands}
 use Rattle.instructions.specs.declared.table.Row.{Row}
-use Rattle.instructions.specs.declared.table.Found.{Found}
-use Rattle.instructions.specs.declared.table.Found.TheVariants.{At, Nothing}
 use Rattle.instructions.specs.Meanings.{Meaning}
 use Rattle.instructions.specs.Table.{found, meaning_of}
 
@@ -22,7 +20,7 @@ abbrev pub code_in : ℕ → ℕ
 code_in w = field 64 0 8 w
 
 -- §3.8: the row of its code, if it has one.
-abbrev pub found_in : ℕ → Found
+abbrev pub found_in : ℕ → Option Row
 found_in w = found (code_in w)
 
 -- §3.8: what its code means.
@@ -30,9 +28,9 @@ abbrev pub meaning_in : ℕ → Meaning
 meaning_in w = meaning_of (code_in w)
 
 -- What is asked of a row; `else` where there is none.
-abbrev pub row_says : {A : Type 0} → A → (Row → A) → Found → A
-row_says else ask Nothing = else
-row_says else ask (At r) = ask r
+abbrev pub row_says : {A : Type 0} → A → (Row → A) → Option Row → A
+row_says else ask None = else
+row_says else ask (Some r) = ask r
 
 -- §3.5: bit k of G, from the left, is one.
 abbrev pub g_bit : ℕ → ℕ → Bool

@@ -1,20 +1,17 @@
 -- A plan's items: how many there are, where each finds its sources and its control bit and puts its result, and what it makes. Sections 7 to 9 of
 -- docs/MACHINE.md.
-use Rattle.std.specs.Prelude.{cond, ℕ, ◌+◌, ◌*◌, ltb}
+use Rattle.std.specs.Prelude.{cond, Option, Some, None, ℕ, ◌+◌, ◌*◌, ltb}
 use Rattle.fields.specs.declared.gathers.Runs.{Runs}
-use Rattle.fields.specs.Gathers.{SourceBit, of_r, of_s, compress_takes, merge_takes, mask_takes, compress_items, merge_items}
+use Rattle.fields.specs.Gathers.{SourceBit, of_r, of_s, compress_takes, merge_takes, mask_takes, bit_items}
 use Rattle.instructions.specs.declared.items.Source.{Source}
 use Rattle.instructions.specs.declared.items.Source.TheVariants.{Field, Value}
-use Rattle.instructions.specs.declared.items.Control.{Control}
-use Rattle.instructions.specs.declared.items.Control.TheVariants.{Every, Where}
-use Rattle.instructions.specs.declared.items.Rule.{Rule}
-use Rattle.instructions.specs.declared.items.Rule.TheVariants.{Compress, Merge, Mask}
-use Rattle.instructions.specs.declared.items.SecondBits.{SecondBits}
-use Rattle.instructions.specs.declared.items.SecondBits.TheVariants.{From, Zeros}
+use Rattle.instructions.specs.declared.items.Gated.{Gated}
+use Rattle.fields.specs.declared.gathers.Rule.{Rule}
+use Rattle.fields.specs.declared.gathers.Rule.TheVariants.{Compress, Merge, Mask}
 use Rattle.instructions.specs.declared.items.VectorPlan.{VectorPlan}
 use Rattle.instructions.specs.declared.items.BitPlan.{BitPlan}
 use Rattle.instructions.specs.declared.items.MovePlan.{MovePlan}
-use Rattle.instructions.specs.declared.items.Made.{Made}
+use Rattle.numbers.specs.declared.flags.Made.{Made}
 use Rattle.instructions.specs.Meanings.{plain}
 use Rattle.instructions.specs.Items.{Place, bits, fixed, Shape}
 
@@ -26,17 +23,17 @@ source_item (Field a) i = bits (a + i * 64)
 source_item (Value v) i = fixed v
 
 -- §7.5: control bit i; without a control field it is a one.
-abbrev pub control_bit : Control → ℕ → Place
-control_bit Every i = fixed 1
-control_bit (Where z ones) i = bits (z + i)
+abbrev pub control_bit : Option Gated → ℕ → Place
+control_bit None i = fixed 1
+control_bit (Some z) i = bits (z.base + i)
 
 -- §7.5: the control bit of an item that is stored: a one, or with G bit 1 a zero.
-abbrev pub sense_of : Control → ℕ
-sense_of Every = 1
-sense_of (Where z ones) = cond ones 1 0
+abbrev pub sense_of : Option Gated → ℕ
+sense_of None = 1
+sense_of (Some z) = cond z.ones 1 0
 
 -- §7.7: a vector of words, its result items w bits wide.
-abbrev pub vector_shape : Source → Source → Control → ℕ → ℕ → (ℕ → ℕ → Made) → Shape
+abbrev pub vector_shape : Source → Source → Option Gated → ℕ → ℕ → (ℕ → ℕ → Made ℕ) → Shape
 vector_shape a b z c w f =
     record {
       first = source_item a;
@@ -66,12 +63,12 @@ taken_shape c w from =
     }
 
 -- §8.2: bit d of S, or zero.
-abbrev pub second_bit : SecondBits → ℕ → Place
-second_bit (From b) d = bits (b + d)
-second_bit Zeros d = fixed 0
+abbrev pub second_bit : Option ℕ → ℕ → Place
+second_bit (Some b) d = bits (b + d)
+second_bit None d = fixed 0
 
 -- §8.1: where the bit of R or of S is that is taken.
-abbrev pub bit_of : ℕ → SecondBits → SourceBit → Place
+abbrev pub bit_of : ℕ → Option ℕ → SourceBit → Place
 bit_of a b (of_r d) = bits (a + d)
 bit_of a b (of_s d) = second_bit b d
 
@@ -89,7 +86,7 @@ byte_of a length fill i = cond (ltb i length) (bits (a + i * 8)) (fixed fill)
 
 -- §10.2: where the items of an instruction are. A vector's are so many bits wide, and are made of two source items.
 pub data Plan : Type 0 where
-  vectors : VectorPlan → ℕ → (ℕ → ℕ → Made) → Plan
+  vectors : VectorPlan → ℕ → (ℕ → ℕ → Made ℕ) → Plan
   bit_runs : BitPlan → Plan
   byte_move : MovePlan → Plan
 
@@ -98,12 +95,6 @@ unfoldable pub shape_of : Plan → Shape
 shape_of (vectors v w f) = vector_shape v.first v.second v.control v.result w f
 shape_of (bit_runs b) = taken_shape b.result 1 (λ j. bit_of b.first b.second (taken_by b.rule b.runs j))
 shape_of (byte_move v) = taken_shape v.result 8 (byte_of v.source v.length v.fill)
-
--- §8.1: how many items each of the three has.
-abbrev pub bit_items : Rule → Runs → ℕ
-bit_items Compress t = compress_items t
-bit_items Merge t = merge_items t
-bit_items Mask t = merge_items t
 
 -- §7.1, §8.1, §9.1: how many items a plan has.
 unfoldable pub items_of : Plan → ℕ

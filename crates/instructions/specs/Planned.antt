@@ -1,20 +1,17 @@
 -- The plan of a vector, bit or move instruction, from its word and operands alone, with places counted in bits from the start of memory: sections 7
 -- to 9 of docs/MACHINE.md.
-use Rattle.std.specs.Prelude.{Bool, true, false, cond, not, ◌||◌, ℕ, ◌-◌, eqb}
+use Rattle.std.specs.Prelude.{Bool, true, false, cond, Option, Some, None, not, ◌||◌, ℕ, ◌-◌, eqb}
 use Rattle.numbers.specs.Words.{low48}
 use Rattle.fields.specs.Field.{field}
 use Rattle.fields.specs.Memory.{origin}
 use Rattle.instructions.specs.declared.operands.Operands.{Operands}
 use Rattle.instructions.specs.declared.items.Source.{Source}
 use Rattle.instructions.specs.declared.items.Source.TheVariants.{Field, Value}
-use Rattle.instructions.specs.declared.items.Control.{Control}
-use Rattle.instructions.specs.declared.items.Control.TheVariants.{Every, Where}
+use Rattle.instructions.specs.declared.items.Gated.{Gated}
 use Rattle.instructions.specs.declared.items.VectorPlan.{VectorPlan}
 use Rattle.instructions.specs.declared.items.BitPlan.{BitPlan}
 use Rattle.instructions.specs.declared.items.MovePlan.{MovePlan}
-use Rattle.instructions.specs.declared.items.Rule.{Rule}
-use Rattle.instructions.specs.declared.items.SecondBits.{SecondBits}
-use Rattle.instructions.specs.declared.items.SecondBits.TheVariants.{From, Zeros}
+use Rattle.fields.specs.declared.gathers.Rule.{Rule}
 use Rattle.instructions.specs.Meanings.{plain, Work, gathers, each_of_a_b, each_of_a, half_of_a, moves, Meaning, unlisted, exits, acts, branches, works}
 use Rattle.instructions.specs.Operands.{g_bit, R, S, T, length_in, indexed}
 use Rattle.instructions.specs.Plan.{Plan, vectors, bit_runs, byte_move}
@@ -30,8 +27,8 @@ abbrev pub source_in : Bool → ℕ → Source
 source_in broadcast d = cond broadcast (Value d) (Field (place_of (low48 d)))
 
 -- §7.5: no control field with Z 00, else its base and which control bit stores.
-abbrev pub control_in : ℕ → ℕ → Control
-control_in w z = cond (eqb (field 64 48 8 w) 0) Every (Where (place_of (low48 z)) (not (g_bit 1 w)))
+abbrev pub control_in : ℕ → ℕ → Option Gated
+control_in w z = cond (eqb (field 64 48 8 w) 0) None (Some (record { base = place_of (low48 z); ones = not (g_bit 1 w) }))
 
 -- §7.1: a vector of its word and operands; `alone` where A is the only source.
 abbrev pub vector_in : Bool → ℕ → Operands → VectorPlan
@@ -45,8 +42,8 @@ vector_in alone w o =
     }
 
 -- §8.2: S of merge and mask: its base, or zeros. (Compress takes no bit of it.)
-abbrev pub second_in : ℕ → SecondBits
-second_in d = cond (eqb (low48 d) 0) Zeros (From (place_of (low48 d)))
+abbrev pub second_in : ℕ → Option ℕ
+second_in d = cond (eqb (low48 d) 0) None (Some (place_of (low48 d)))
 
 -- §8.1: a bit instruction of its operands.
 abbrev pub bits_in : Rule → Operands → BitPlan

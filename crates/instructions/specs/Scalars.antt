@@ -3,7 +3,7 @@ use Rattle.std.specs.Prelude.{ℕ}
 use Rattle.fields.specs.declared.extents.Unit.TheVariants as unit
 use Rattle.fields.specs.Field.{field, store}
 use Rattle.fields.specs.Memory.{field_in}
-use Rattle.instructions.specs.declared.items.Made.{Made}
+use Rattle.numbers.specs.declared.flags.Made.{Made}
 use Rattle.instructions.specs.declared.operands.Operands.{Operands}
 use Rattle.instructions.specs.declared.effects.Outcome.{Outcome}
 use Rattle.instructions.specs.declared.effects.Effect.TheVariants.{Nothing, Register, HalfRegister, Byte, Word}
@@ -17,10 +17,10 @@ abbrev pub number_t : ℕ → ℕ
 number_t w = field 64 24 8 w
 
 -- §5.1: what is made goes to register T, or to half word T, and its flags are raised.
-abbrev pub to_register : ℕ → Made → Outcome
+abbrev pub to_register : ℕ → Made ℕ → Outcome
 to_register t r = falls_through (Register t r.item) r.flags
 
-abbrev pub to_half_register : ℕ → Made → Outcome
+abbrev pub to_half_register : ℕ → Made ℕ → Outcome
 to_half_register t r = falls_through (HalfRegister t r.item) r.flags
 
 -- §5.4: load byte (code 12): the byte at the right end of T, zeros before it.

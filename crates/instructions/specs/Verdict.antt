@@ -1,13 +1,15 @@
 -- What refuses an instruction: refusals 4 to 11, and the exit's 1, as one list in their order. Section 12 of docs/MACHINE.md.
-use Rattle.std.specs.Prelude.{Bool, true, false, cond, not, ◌&&◌, ◌||◌, List, [], ◌∷◌, ◌++◌, ℕ, ◌%◌, eqb}
+use Rattle.std.specs.Prelude.{Bool, true, false, cond, not, ◌&&◌, ◌||◌, List, [], ◌∷◌, ◌++◌, ℕ, ◌%◌, eqb, Option, Some, None, Result, Ok, Err}
+use Rattle.fields.specs.declared.units.BitAddress.{BitAddress}
 use Rattle.fields.specs.declared.extents.Field.{Field}
 use Rattle.fields.specs.Extents.{aligned, inside, shares, in_place}
+use Rattle.instructions.specs.declared.table.Row.{Row}
 use Rattle.instructions.specs.declared.operands.Operands.{Operands}
 use Rattle.instructions.specs.declared.layout.Fields.{Fields}
-use Rattle.instructions.specs.declared.table.Found.{Found}
+use Rattle.instructions.specs.declared.verdict.Stop.{Stop}
 use Rattle.instructions.specs.Table.{named_of}
 use Rattle.instructions.specs.Operands.{code_in, found_in, row_says}
-use Rattle.instructions.specs.Words.{not_zero, missing}
+use Rattle.instructions.specs.Words.{not_zero, missing, refusal_number}
 use Rattle.instructions.specs.Layout.{fields_of}
 use Rattle.instructions.specs.Fetch.{long_in, unfetched_at}
 
@@ -15,7 +17,7 @@ use Rattle.instructions.specs.Fetch.{long_in, unfetched_at}
 pub record Case : Type 0 where
   pub p : ℕ
   pub word : ℕ
-  pub row : Found
+  pub row : Option Row
   pub fields : Fields
   pub bytes : ℕ
 
@@ -43,9 +45,14 @@ at_exit c = eqb (code_in c.word) 0x09
 
 -- ---- refusals 8 to 11: the fields
 
+-- §12.12: a target that is no multiple of 32.
+abbrev pub off_half_words : Option BitAddress → Bool
+off_half_words None = false
+off_half_words (Some a) = not (eqb (a.0 % 32) 0)
+
 -- §12.12: refusal 8: a taken target is no multiple of 32, or a result or source does not begin at a multiple of its unit. Bits always do.
 unfoldable pub misaligned : Fields → Bool
-misaligned f = (f.taken && not (eqb (f.target.0 % 32) 0)) || (not (aligned f.result) || (not (aligned f.first) || not (aligned f.second)))
+misaligned f = off_half_words f.target || (not (aligned f.result) || (not (aligned f.first) || not (aligned f.second)))
 
 -- §12.14: refusal 10: some field is not wholly in memory.
 unfoldable pub outside : Fields → ℕ → Bool
@@ -96,3 +103,15 @@ case_of p w o n = record { p = p; word = w; row = found_in w; fields = fields_of
 -- §12.17: the verdict on it; what memory holds has no part in it.
 unfoldable pub verdict_of : ℕ → ℕ → Operands → ℕ → ℕ
 verdict_of p w o n = first_number checks (case_of p w o n)
+
+-- ---- what the code says of it
+
+-- §12.5, §12.8 to §12.15: the number of what ends a run at an instruction.
+abbrev pub stop_number : Stop → ℕ
+stop_number Stop.Exit = 1
+stop_number (Stop.Refused why) = refusal_number why
+
+-- The number of what checks say; 0 where they let pass.
+abbrev pub said_number : {A E : Type 0} → (E → ℕ) → Result A E → ℕ
+said_number number (Ok a) = 0
+said_number number (Err e) = number e

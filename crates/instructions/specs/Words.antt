@@ -1,15 +1,11 @@
 -- Instruction words: their parts, and the first of refusals 5, 6 and 7 that a word meets. Section 3 of docs/MACHINE.md.
-use Rattle.std.specs.Prelude.{Bool, not, cond, ◌&&◌, ◌||◌, List, [], ◌∷◌, ℕ, eqb}
+use Rattle.std.specs.Prelude.{Bool, not, cond, ◌&&◌, ◌||◌, List, [], ◌∷◌, ℕ, eqb, Option, Some, None, Result, Ok, Err}
 use Rattle.std.specs.Int.Bits.{bit_and}
 use Rattle.fields.specs.Field.{field}
 use Rattle.fields.specs.Bytes.{num}
 use Rattle.instructions.specs.declared.table.Row.{Row}
-use Rattle.instructions.specs.declared.table.Found.{Found}
 use Rattle.instructions.specs.declared.words.Parts.{Parts}
 use Rattle.instructions.specs.declared.words.Refusal.{Refusal}
-use Rattle.instructions.specs.declared.words.Decoded.{Decoded}
-use Rattle.instructions.specs.declared.words.Reading.{Reading}
-use Rattle.instructions.specs.declared.words.Assembled.{Assembled}
 use Rattle.instructions.specs.Table.{format_of, named_of, vector_format, zero_bits, found}
 
 -- §3.3, §3.14: the eight parts of a word, a byte each; R, S and T of a 32-bit word are the second to the fourth.
@@ -53,37 +49,42 @@ missing named w =
     missing_at named w 0 || missing_at named w 8 || missing_at named w 16 || missing_at named w 24
     || missing_at named w 32 || missing_at named w 40 || missing_at named w 48 || missing_at named w 56
 
--- §12.9, §12.10, §12.11: the numbers of these refusals.
+-- §12.8 to §12.15: the number of each refusal of an instruction.
 abbrev pub refusal_number : Refusal → ℕ
+refusal_number Refusal.NotThere = 4
 refusal_number Refusal.NotListed = 5
 refusal_number Refusal.NotZero = 6
 refusal_number Refusal.NoMeaning = 7
+refusal_number Refusal.Misaligned = 8
+refusal_number Refusal.Short = 9
+refusal_number Refusal.Outside = 10
+refusal_number Refusal.Shared = 11
 
 -- §3.13: refusals 5, 6 and 7 in this order, of a word and the row of its code.
-abbrev pub decoded_at : ℕ → Found → Decoded
-decoded_at w Found.Nothing = Decoded.Refused Refusal.NotListed
-decoded_at w (Found.At r) =
-    cond (not_zero r w) (Decoded.Refused Refusal.NotZero)
-    (cond (missing (named_of r) w) (Decoded.Refused Refusal.NoMeaning) (Decoded.Listed r))
+abbrev pub decoded_at : ℕ → Option Row → Result Row Refusal
+decoded_at w None = Err Refusal.NotListed
+decoded_at w (Some r) =
+    cond (not_zero r w) (Err Refusal.NotZero)
+    (cond (missing (named_of r) w) (Err Refusal.NoMeaning) (Ok r))
 
 -- §3.13: a word is listed, with its row, or refused.
-unfoldable pub decoded : ℕ → Decoded
+unfoldable pub decoded : ℕ → Result Row Refusal
 decoded w = decoded_at w (found (field 64 0 8 w))
 
 -- Taken apart by what the decoding says: the parts of a listed word, or the refusal.
-abbrev pub reading_at : ℕ → Decoded → Reading
-reading_at w (Decoded.Listed r) = Reading.Listed (parts_of w)
-reading_at w (Decoded.Refused n) = Reading.Refused n
+abbrev pub reading_at : ℕ → Result Row Refusal → Result Parts Refusal
+reading_at w (Ok r) = Ok (parts_of w)
+reading_at w (Err n) = Err n
 
 -- §3.14: a word taken apart.
-unfoldable pub reading : ℕ → Reading
+unfoldable pub reading : ℕ → Result Parts Refusal
 reading w = reading_at w (decoded w)
 
 -- Put together by what the decoding says: a listed word, or the refusal.
-abbrev pub assembled_at : ℕ → Decoded → Assembled
-assembled_at w (Decoded.Listed r) = Assembled.Word w
-assembled_at w (Decoded.Refused n) = Assembled.Refused n
+abbrev pub assembled_at : ℕ → Result Row Refusal → Result ℕ Refusal
+assembled_at w (Ok r) = Ok w
+assembled_at w (Err n) = Err n
 
 -- §3.14: parts put together.
-unfoldable pub assembled : Parts → Assembled
+unfoldable pub assembled : Parts → Result ℕ Refusal
 assembled p = assembled_at (joined p) (decoded (joined p))

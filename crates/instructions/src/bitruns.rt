@@ -1,16 +1,16 @@
 // Compress, merge and mask, by runs of up to 64 bits; where the runs are short, by several periods at once.
-ghost use Rattle.std.specs.Prelude.{◌≡◌, true, false, ◌+◌, ◌-◌, ◌*◌, ◌/◌, ◌%◌, ◌^◌, ◌<◌, ◌≤◌, min};
+ghost use Rattle.std.specs.Prelude.{◌≡◌, ◌+◌, ◌-◌, ◌*◌, ◌%◌, ◌^◌, ◌<◌, ◌≤◌, max};
 ghost use Rattle.fields.specs.Slot.{get};
 ghost use Rattle.fields.specs.Field.{field, store};
 ghost use Rattle.fields.specs.Bytes.{num, size};
 ghost use Rattle.fields.specs.Memory.{Kept};
 ghost use Rattle.instructions.specs.Items.{value_at};
-ghost use Rattle.instructions.specs.Plan.{taken_shape};
-ghost use Rattle.instructions.specs.Private.Loops.{TurnedQuietly, Room, RoomFor, sides_of, period_of, cursor_at, cursor_on, left_at, stands_at, woven_at, Paced, ReadyBits, Chunk, spread_of, front_of, back_of, gather_shape, both_in, span_r, span_s, periods_of};
+ghost use Rattle.instructions.specs.Plan.{second_bit};
+ghost use Rattle.instructions.specs.Private.Loops.{TurnedQuietly, Room, RoomFor, period_bits, period_of, cursor_at, cursor_on, left_at, weave_of, stands_at, woven_shape, ReadyBits, Chunk, spread_of, front_of, back_of, gather_shape, span_r, span_s, periods_of};
 
-use crate::items::{BitPlan, Rule, SecondBits};
-use fields::bytes;
-use fields::gathers::Runs;
+use crate::items::BitPlan;
+use fields::bytes::{self, WORD};
+use fields::gathers::{Rule, Runs};
 
 // The n bits from bit j of a word on.
 fn part(w: u64, j: u64, n: u64) -> u64
@@ -30,12 +30,12 @@ fn placed(w: u64, j: u64, n: u64, v: u64) -> u64
     w - held + (v << s)
 }
 
-// The n bits at bit `at`, which lie in one aligned word.
+// The n bits at bit `at`, which lie in one aligned word. `Room` is of the memory that is lent and of a place in it, so that no value holds it, here and below.
 fn in_word(m: &[u8], at: usize, n: u64) -> u64
     requires { Room m.now at n × (at % 64 + n ≤ 64) }
     ensures { result ≡ field (size m.now) at n (num m.now) }
 {
-    let w = bytes::word(m, at / 64 * 8);
+    let w = bytes::read::<WORD>(m, at / 64 * 8);
     part(w, (at % 64) as u64, n)
 }
 
@@ -45,9 +45,9 @@ fn to_word(m: &mut [u8], at: usize, n: u64, v: u64)
     ensures { Kept m.old at n v m.new }
 {
     let k = at / 64 * 8;
-    let w = bytes::word(m, k);
+    let w = bytes::read::<WORD>(m, k);
     let x = placed(w, (at % 64) as u64, n, v);
-    bytes::put_word(m, k, x);
+    bytes::put::<WORD>(m, k, x);
 }
 
 // The n bits at any bit `at`.
@@ -81,26 +81,67 @@ fn put_run(m: &mut [u8], at: usize, n: u64, v: u64)
     }
 }
 
-// Where R and S begin; S may be zeros.
-#[derive(Clone, Copy)]
-pub struct Sides {
-    pub r: usize,
-    pub some: bool,
-    pub s: usize,
-}
-
-// A period of the result: so many bits, the head of them from R. R goes on by `first` in a period, and S by `second`. Bit q of a period is bit q of
-// R's part of it, or past the head bit q - skipped of S's.
+// A period of the result: its head is taken from R and its tail from S. R goes on by `first` in a period and S by `second`; the first tail lies `over` bits
+// past where S begins.
 #[derive(Clone, Copy)]
 pub struct Period {
-    pub bits: usize,
-    pub head: usize,
-    pub first: usize,
-    pub second: usize,
-    pub skipped: usize,
+    pub head: u32,
+    pub tail: u32,
+    pub first: u32,
+    pub second: u32,
+    pub over: u32,
 }
 
-// Where the work stands: the place in the period, and where R's and S's parts of it begin.
+impl Period {
+    // The period of a rule.
+    fn of(rule: Rule, runs: Runs) -> Period
+        ensures { result ≡ period_of rule runs }
+    {
+        let r = runs.r as u32;
+        let s = runs.s as u32;
+        match rule {
+            Rule::Compress => Period {
+                head: r,
+                tail: 0,
+                first: r + s,
+                second: 0,
+                over: 0,
+            },
+            Rule::Merge => Period {
+                head: r,
+                tail: s,
+                first: r,
+                second: s,
+                over: 0,
+            },
+            Rule::Mask => Period {
+                head: r,
+                tail: s,
+                first: r + s,
+                second: r + s,
+                over: r,
+            },
+        }
+    }
+
+    // The bits of the result that it has.
+    fn bits(self) -> usize
+        ensures { result ≡ period_bits self }
+    {
+        self.head as usize + self.tail as usize
+    }
+
+    // The most that it goes on by: in the result, in R or in S.
+    fn widest(self) -> usize
+        ensures { result ≡ max (max (period_bits self) self.first) self.second }
+    {
+        self.bits()
+            .max(self.first as usize)
+            .max(self.second as usize)
+    }
+}
+
+// Where the work stands: the place in the period, the bit of R that its head begins with, and how far past the beginning of S its tail is.
 #[derive(Clone, Copy)]
 pub struct Cursor {
     pub place: usize,
@@ -108,76 +149,18 @@ pub struct Cursor {
     pub s: usize,
 }
 
-// Where the bits of R and of S begin, by plain numbers.
-fn two_sides(r: usize, second: SecondBits) -> Sides
-    ensures { result ≡ sides_of r second }
-{
-    match second {
-        SecondBits::From(s) => Sides { r, some: true, s },
-        SecondBits::Zeros => Sides {
-            r,
-            some: false,
-            s: 0,
-        },
-    }
-}
-
-// The period of a rule.
-fn one_period(rule: Rule, runs: Runs) -> Period
-    ensures { (result ≡ period_of rule runs) × Paced result }
-{
-    let r = runs.r as usize;
-    let s = runs.s as usize;
-    match rule {
-        Rule::Compress => Period {
-            bits: r,
-            head: r,
-            first: r + s,
-            second: 0,
-            skipped: 0,
-        },
-        Rule::Merge => Period {
-            bits: r + s,
-            head: r,
-            first: r,
-            second: s,
-            skipped: r,
-        },
-        Rule::Mask => Period {
-            bits: r + s,
-            head: r,
-            first: r + s,
-            second: r + s,
-            skipped: 0,
-        },
-    }
-}
-
 impl Cursor {
-    // At item i, of at most as many as the largest memory has bits: 8 times 65,536.
-    fn at(sides: Sides, p: Period, i: usize) -> Cursor
-        requires { (0 < p.bits) × (i ≤ 524288) × Paced p × (sides.r < 2 ^ 48) × (sides.s < 2 ^ 48) }
-        ensures { result ≡ cursor_at sides p i }
-    {
-        let turn = i / p.bits;
-        Cursor {
-            place: i % p.bits,
-            r: sides.r + turn * p.first,
-            s: sides.s + turn * p.second,
-        }
-    }
-
     // n bits on, and no further than the period.
     fn on(self, p: Period, n: usize) -> Cursor
-        requires { (self.place < 2 ^ 49) × (n < 2 ^ 49) × (self.r < 2 ^ 49) × (self.s < 2 ^ 49) × Paced p }
+        requires { (self.place < 2 ^ 33) × (n ≤ 64) × (self.r < 2 ^ 53) × (self.s < 2 ^ 53) }
         ensures { result ≡ cursor_on self p n }
     {
         let place = self.place + n;
-        if place == p.bits {
+        if place == p.bits() {
             Cursor {
                 place: 0,
-                r: self.r + p.first,
-                s: self.s + p.second,
+                r: self.r + p.first as usize,
+                s: self.s + p.second as usize,
             }
         } else {
             Cursor {
@@ -188,54 +171,17 @@ impl Cursor {
         }
     }
 
-    // The bits left of the run that it stands in.
+    // The bits left of the head or the tail that it stands in.
     fn left(self, p: Period) -> usize
-        requires { self.place < p.bits }
+        requires { self.place < period_bits p }
         ensures { result ≡ left_at self p }
     {
-        if self.place < p.head {
-            p.head - self.place
+        let head = p.head as usize;
+        if self.place < head {
+            head - self.place
         } else {
-            p.bits - self.place
+            p.bits() - self.place
         }
-    }
-}
-
-// The smaller of two.
-fn smaller(m: usize, n: usize) -> usize
-    ensures { result ≡ min m n }
-{
-    if m < n { m } else { n }
-}
-
-// The next n bits of the run that the cursor stands in.
-fn next_bits(m: &[u8], some: bool, p: Period, u: Cursor, n: u64) -> u64
-    requires { Paced p × RoomFor m.now n (stands_at some p u) }
-    ensures { result ≡ value_at (size m.now) n (stands_at some p u) (num m.now) }
-{
-    if u.place < p.head {
-        run(m, u.r + u.place, n)
-    } else if some {
-        run(m, u.s + (u.place - p.skipped), n)
-    } else {
-        0
-    }
-}
-
-// The loop of all three. A run ends with the one of R or of S, with the items asked for, or with an aligned word of the result.
-fn weave(m: &mut [u8], sides: Sides, p: Period, c: usize, from: usize, count: usize)
-    requires { ReadyBits m.old sides p c (from + count) × Paced p }
-    ensures { TurnedQuietly (taken_shape c 1 (woven_at sides p)) from count m.old m.new }
-{
-    let mut u = Cursor::at(sides, p, from);
-    let mut done: usize = 0;
-    while done < count {
-        let to = c + (from + done);
-        let n = smaller(smaller(u.left(p), count - done), 64 - to % 64);
-        let v = next_bits(m, sides.some, p, u, n as u64);
-        to_word(m, to, n as u64, v);
-        u = u.on(p, n);
-        done += n;
     }
 }
 
@@ -248,16 +194,16 @@ fn piece(x: u64, right: usize, n: usize) -> u64
     (x >> right) % end
 }
 
+// Of plain numbers and not of `Periods`, which are made with two of these.
+//
 // t pieces of x, each of n bits and `step` bits after the one before it, the last at the right end: each at the right end of `gap` bits.
 fn spread(x: u64, step: usize, n: usize, gap: usize, t: usize) -> u64
     requires { (n ≤ gap) × (gap ≤ 32) × (t * gap ≤ 64) × (t * step ≤ 64) }
     ensures { result ≡ spread_of x step n gap t t }
 {
     let mut v: u64 = 0;
-    let mut k: usize = 0;
-    while k < t {
+    for k in 0..t {
         v = (v << gap) + piece(x, (t - (k + 1)) * step, n);
-        k += 1;
     }
     v
 }
@@ -283,124 +229,176 @@ fn pieces(x: u64, ones: u64, step: usize, n: usize, gap: usize, t: usize) -> u64
     }
 }
 
-// S has a part in the periods.
-fn two_parts(some: bool, p: Period) -> bool
-    ensures { result ≡ both_in some p }
-{
-    if p.head < p.bits { some } else { false }
+// What is woven: R from bit r on and S from bit s on, or zeros for S, by a period, to bit `to` and those after it.
+#[derive(Clone, Copy)]
+pub struct Weave {
+    pub r: usize,
+    pub s: Option<usize>,
+    pub period: Period,
+    pub to: usize,
 }
 
-// t periods, R's part from bit r on and S's, if it has one, from bit s on; front and back have ones where the pieces go.
-fn periods(
-    m: &[u8],
-    both: bool,
-    p: Period,
+impl Weave {
+    // Of a plan. What has no tail takes nothing of S.
+    fn of(plan: BitPlan) -> Weave
+        ensures { result ≡ weave_of plan }
+    {
+        let period = Period::of(plan.rule, plan.runs);
+        Weave {
+            r: plan.first,
+            s: if period.tail == 0 { None } else { plan.second },
+            period,
+            to: plan.result,
+        }
+    }
+
+    // The cursor at item i, of at most as many as the largest memory has bits: 8 times 65,536.
+    fn at(self, i: usize) -> Cursor
+        requires { (0 < period_bits self.period) × (self.r < 2 ^ 48) × (i ≤ 524288) }
+        ensures { result ≡ cursor_at self i }
+    {
+        let p = self.period;
+        let turn = i / p.bits();
+        Cursor {
+            place: i % p.bits(),
+            r: self.r + turn * p.first as usize,
+            s: p.over as usize + turn * p.second as usize,
+        }
+    }
+
+    // The next n bits of the head or the tail that the cursor stands in.
+    fn next_bits(self, m: &[u8], u: Cursor, n: u64) -> u64
+        requires { RoomFor m.now n (stands_at self u) }
+        ensures { result ≡ value_at (size m.now) n (stands_at self u) (num m.now) }
+    {
+        let head = self.period.head as usize;
+        if u.place < head {
+            return run(m, u.r + u.place, n);
+        }
+        match self.s {
+            Some(s) => run(m, s + (u.s + (u.place - head)), n),
+            None => 0,
+        }
+    }
+
+    // Items from..from + count, by runs. A run ends with the head or the tail, with the items asked for, or with an aligned word of the result.
+    fn by_runs(self, m: &mut [u8], from: usize, count: usize)
+        requires { ReadyBits m.old self (from + count) }
+        ensures { TurnedQuietly (woven_shape self) from count m.old m.new }
+    {
+        let p = self.period;
+        let mut u = self.at(from);
+        let mut done: usize = 0;
+        // No `for`, which would have no range to go over: how long a run is, 1 to 64 bits, is known when it is reached.
+        while done < count {
+            let to = self.to + (from + done);
+            let n = u.left(p).min(count - done).min(64 - to % 64);
+            let v = self.next_bits(m, u, n as u64);
+            to_word(m, to, n as u64, v);
+            u = u.on(p, n);
+            done += n;
+        }
+    }
+
+    // Items from..from + count, the shorter way.
+    fn work(self, m: &mut [u8], from: usize, count: usize)
+        requires { ReadyBits m.old self (from + count) }
+        ensures { TurnedQuietly (woven_shape self) from count m.old m.new }
+    {
+        let p = self.period;
+        if 64 <= count && 0 < p.head && p.widest() <= 32 {
+            Periods::of(self).in_periods(m, from, count);
+        } else {
+            self.by_runs(m, from, count);
+        }
+    }
+}
+
+// t periods of what is woven, which are worked at once; front and back have ones where the pieces of R and of S go.
+#[derive(Clone, Copy)]
+struct Periods {
+    weave: Weave,
+    t: usize,
     front: u64,
     back: u64,
-    r: usize,
-    s: usize,
-    t: usize,
-) -> u64
-    requires { Paced p × Chunk p t × Room m.now r (span_r p t) × (both ≡ true → Room m.now s (span_s p t)) × (front ≡ front_of p t) × (back ≡ back_of p t) }
-    ensures { result ≡ periods_of (size m.now) both p r s t (num m.now) }
-{
-    let tail = p.bits - p.head;
-    let before = t - 1;
-    let x = run(m, r, (before * p.first + p.head) as u64);
-    let heads = pieces(x, front, p.first, p.head, p.bits, t) << tail;
-    if both {
-        let y = run(m, s, (before * p.second + (p.bits - p.skipped)) as u64);
-        heads + pieces(y, back, p.second, tail, p.bits, t)
-    } else {
-        heads
+    ghost fits: { Chunk weave.period t },
+    ghost pieces: { (front ≡ front_of weave.period t) × (back ≡ back_of weave.period t) },
+}
+
+impl Periods {
+    // As many as fit a word, in the result, in R and in S.
+    fn of(weave: Weave) -> Periods
+        requires { (0 < weave.period.head) × (max (max (period_bits weave.period) weave.period.first) weave.period.second ≤ 32) }
+        ensures { result.weave ≡ weave }
+    {
+        let p = weave.period;
+        let t = 64 / p.widest();
+        Periods {
+            weave,
+            t,
+            front: all_ones(p.head as usize, p.bits(), t),
+            back: all_ones(p.tail as usize, p.bits(), t),
+        }
+    }
+
+    // Their bits, where the first head begins with bit r of the memory and the first tail is s bits past where S begins.
+    fn bits(self, m: &[u8], r: usize, s: usize) -> u64
+        requires { Room m.now r (span_r self.weave.period self.t) × RoomFor m.now (span_s self.weave.period self.t) (second_bit self.weave.s s) }
+        ensures { result ≡ periods_of (size m.now) self.weave self.t r s (num m.now) }
+    {
+        let t = self.t;
+        let p = self.weave.period;
+        let gap = p.bits();
+        let head = p.head as usize;
+        let tail = p.tail as usize;
+        let first = p.first as usize;
+        let second = p.second as usize;
+        let x = run(m, r, ((t - 1) * first + head) as u64);
+        let heads = pieces(x, self.front, first, head, gap, t) << tail;
+        match self.weave.s {
+            Some(b) => {
+                let y = run(m, b + s, ((t - 1) * second + tail) as u64);
+                heads + pieces(y, self.back, second, tail, gap, t)
+            }
+            None => heads,
+        }
+    }
+
+    // As many times t periods as count bits have, from the beginning of a period on; how many bits that is.
+    fn by_periods(self, m: &mut [u8], from: usize, count: usize) -> usize
+        requires { ReadyBits m.old self.weave (from + count) × (from % period_bits self.weave.period ≡ 0) }
+        ensures { (result ≤ count) × TurnedQuietly (woven_shape self.weave) from result m.old m.new }
+    {
+        let p = self.weave.period;
+        let n = self.t * p.bits();
+        let u = self.weave.at(from);
+        let times = count / n;
+        for k in 0..times {
+            let r = u.r + k * (self.t * p.first as usize);
+            let s = u.s + k * (self.t * p.second as usize);
+            let v = self.bits(m, r, s);
+            put_run(m, self.weave.to + (from + k * n), n as u64, v);
+        }
+        times * n
+    }
+
+    // Bits to the end of a period, then several periods at once, then the rest.
+    fn in_periods(self, m: &mut [u8], from: usize, count: usize)
+        requires { ReadyBits m.old self.weave (from + count) × (64 ≤ count) }
+        ensures { TurnedQuietly (woven_shape self.weave) from count m.old m.new }
+    {
+        let gap = self.weave.period.bits();
+        let lead = gap - from % gap;
+        self.weave.by_runs(m, from, lead);
+        let done = lead + self.by_periods(m, from + lead, count - lead);
+        self.weave.by_runs(m, from + done, count - done);
     }
 }
 
-// As many times t periods as count bits have, from the beginning of a period on; how many bits that is.
-fn by_periods(
-    m: &mut [u8],
-    sides: Sides,
-    p: Period,
-    c: usize,
-    t: usize,
-    from: usize,
-    count: usize,
-) -> usize
-    requires { ReadyBits m.old sides p c (from + count) × Paced p × Chunk p t × (from % p.bits ≡ 0) }
-    ensures { (result ≤ count) × TurnedQuietly (taken_shape c 1 (woven_at sides p)) from result m.old m.new }
-{
-    let n = t * p.bits;
-    let front = all_ones(p.head, p.bits, t);
-    let back = all_ones(p.bits - p.head, p.bits, t);
-    let u = Cursor::at(sides, p, from);
-    let mut r = u.r;
-    let mut s = u.s;
-    let mut done: usize = 0;
-    while done + n <= count {
-        let both = two_parts(sides.some, p);
-        let v = periods(m, both, p, front, back, r, s, t);
-        put_run(m, c + (from + done), n as u64, v);
-        r += t * p.first;
-        s += t * p.second;
-        done += n;
-    }
-    done
-}
-
-// Bits to the end of a period, then several periods at once, then the rest.
-fn in_periods(m: &mut [u8], sides: Sides, p: Period, c: usize, t: usize, from: usize, count: usize)
-    requires { ReadyBits m.old sides p c (from + count) × Paced p × Chunk p t × (64 ≤ count) }
-    ensures { TurnedQuietly (taken_shape c 1 (woven_at sides p)) from count m.old m.new }
-{
-    let lead = p.bits - from % p.bits;
-    weave(m, sides, p, c, from, lead);
-    let done = lead + by_periods(m, sides, p, c, t, from + lead, count - lead);
-    weave(m, sides, p, c, from + done, count - done);
-}
-
-// At least each of two.
-fn larger(m: usize, n: usize) -> usize
-    ensures { (m ≤ result) × (n ≤ result) }
-{
-    if m < n { n } else { m }
-}
-
-// Whether several periods of at most w bits are worked at once.
-fn at_once(p: Period, w: usize, count: usize) -> bool
-    ensures { result ≡ true → (w ≤ 32) × (0 < p.head) × (64 ≤ count) }
-{
-    if 32 < w {
-        return false;
-    }
-    if p.head == 0 {
-        return false;
-    }
-    64 <= count
-}
-
-// Items from..from + count of a period's rule, the shorter way.
-fn woven(m: &mut [u8], sides: Sides, p: Period, c: usize, from: usize, count: usize)
-    requires { ReadyBits m.old sides p c (from + count) × Paced p }
-    ensures { TurnedQuietly (taken_shape c 1 (woven_at sides p)) from count m.old m.new }
-{
-    let w = larger(p.bits, larger(p.first, p.second));
-    if at_once(p, w, count) {
-        in_periods(m, sides, p, c, 64 / w, from, count);
-    } else {
-        weave(m, sides, p, c, from, count);
-    }
-}
-
-// Items from..from + count of a compress, merge or mask.
+// Items from..from + count of a compress, merge or mask. They set no flags, so that it takes no Stretch, which has the flags before them.
 pub fn gather(m: &mut [u8], plan: BitPlan, from: usize, count: usize)
-    requires { ReadyBits m.old (sides_of plan.first plan.second) (period_of plan.rule plan.runs) plan.result (from + count) }
+    requires { ReadyBits m.old (weave_of plan) (from + count) }
     ensures { TurnedQuietly (gather_shape plan) from count m.old m.new }
 {
-    let second = plan.second;
-    let rule = plan.rule;
-    let runs = plan.runs;
-    let sides = two_sides(plan.first, second);
-    let p = one_period(rule, runs);
-    let c = plan.result;
-    woven(m, sides, p, c, from, count);
+    Weave::of(plan).work(m, from, count);
 }

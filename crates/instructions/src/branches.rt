@@ -2,11 +2,12 @@
 ghost use Rattle.std.specs.Prelude.{◌≡◌};
 ghost use Rattle.instructions.specs.Meanings.{less, same};
 ghost use Rattle.instructions.specs.Table.{meaning_of};
-ghost use Rattle.instructions.specs.Branches.{compares_by, branch_sum, taken_of, target_of, branch_of};
+ghost use Rattle.instructions.specs.Branches.{compares_by, branch_sum, taken_of, target_of, goes_to, branch_of};
 
-use crate::designators::designator;
-use crate::effects::{Effect, Next, Outcome};
-use crate::operands::{Operands, code_in, g_bit_4};
+use crate::effects::{Effect, Outcome};
+use crate::instruction::Instruction;
+use crate::operands::{Operands, code_in, g_bit};
+use crate::words::part;
 use fields::units::{BitAddress, HalfWordCount, WRAP};
 use numbers::number::Number;
 use numbers::words;
@@ -15,21 +16,23 @@ use numbers::words;
 fn less(unsigned: bool, m: u64, n: u64) -> bool
     ensures { result ≡ less unsigned m n }
 {
-    let x = Number::of_word(m);
-    let y = Number::of_word(n);
-    let signed = x.coefficient < y.coefficient;
-    let plain = m % WRAP < n % WRAP;
-    if unsigned { plain } else { signed }
+    if unsigned {
+        m % WRAP < n % WRAP
+    } else {
+        Number::from(m).coefficient < Number::from(n).coefficient
+    }
 }
 
+// Their low 48 are the same: of words that is not `==`.
 fn same(m: u64, n: u64) -> bool
     ensures { result ≡ same m n }
 {
     m % WRAP == n % WRAP
 }
 
-// EQ NE GE LT LE GT.
-fn compare(code: u64, unsigned: bool, m: u64, n: u64) -> bool
+// EQ NE GE LT LE GT, by the code, the machine's own number: a match is a jump.
+#[tactic(auto, unfolding(crate::specs::Table::meaning_of))]
+fn compare(code: u8, unsigned: bool, m: u64, n: u64) -> bool
     ensures { result ≡ compares_by (meaning_of code) unsigned m n }
 {
     match code {
@@ -39,7 +42,7 @@ fn compare(code: u64, unsigned: bool, m: u64, n: u64) -> bool
         0xB3 => less(unsigned, m, n),
         0xB4 => !less(unsigned, n, m),
         0xB5 => less(unsigned, n, m),
-        _ => false,
+        _ => false, // no branch's code
     }
 }
 
@@ -49,33 +52,45 @@ fn sum(o: Operands) -> u64
     words::add(o.a, o.x)
 }
 
-pub fn taken(word: u64, o: Operands) -> bool
-    ensures { result ≡ taken_of word o }
-{
-    compare(code_in(word), g_bit_4(word), sum(o), o.z)
-}
-
-pub fn target(o: Operands) -> BitAddress
+fn target(o: Operands) -> BitAddress
     ensures { result ≡ target_of o }
 {
-    let base = BitAddress(o.b);
-    let index = HalfWordCount(o.y);
-    base.plus(index.shifted())
+    BitAddress(o.b).plus(HalfWordCount(o.y).shifted())
 }
 
-// The sum goes to C, taken or not.
-pub fn branch(word: u64, o: Operands) -> Outcome
-    ensures { result ≡ branch_of word o }
-{
-    let number = designator(word, 0) as u8;
-    let value = sum(o);
-    let effect = Effect::Register { number, value };
-    if taken(word, o) {
-        return Outcome {
-            effect,
-            flags: 0,
-            next: Next::Target(target(o)),
-        };
+impl Instruction {
+    #[tactic(auto, unfolding(crate::specs::Branches::taken_of))]
+    fn taken(self) -> bool
+        ensures { result ≡ taken_of self.word self.operands }
+    {
+        let o = self.operands;
+        compare(code_in(self.word), g_bit(self.word, 4), sum(o), o.z)
     }
-    Outcome::falls_through(effect, 0)
+
+    // The target, if the branch is taken. A call would put the whole instruction into memory at every step: a tenth more machine instructions.
+    #[inline(always)]
+    pub(crate) fn goes_to(self) -> Option<BitAddress>
+        ensures { result ≡ goes_to self.word self.operands }
+    {
+        if self.taken() {
+            Some(target(self.operands))
+        } else {
+            None
+        }
+    }
+
+    // The sum goes to C, taken or not.
+    #[tactic(auto, unfolding(crate::specs::Branches::branch_of))]
+    pub(crate) fn branch(self) -> Outcome
+        ensures { result ≡ branch_of self.word self.operands }
+    {
+        Outcome {
+            effect: Effect::Register {
+                number: part(self.word, 0),
+                value: sum(self.operands),
+            },
+            flags: 0,
+            target: self.goes_to(),
+        }
+    }
 }

@@ -4,6 +4,7 @@ ghost use Rattle.fields.specs.Field.{store};
 ghost use Rattle.instructions.specs.Effects.{half_at, with_half, falls_through};
 ghost use Rattle.instructions.specs.Private.Accepted.{Applied, Reaches};
 
+use fields::bytes::{BYTE, WORD};
 use fields::memory;
 use fields::units::BitAddress;
 
@@ -17,18 +18,12 @@ pub enum Effect {
     Word { at: BitAddress, value: u64 },
 }
 
-// Where control goes: to the word that follows, or to a taken target.
-#[derive(Clone, Copy)]
-pub enum Next {
-    Following,
-    Target(BitAddress),
-}
-
 #[derive(Clone, Copy)]
 pub struct Outcome {
     pub effect: Effect,
     pub flags: u64,
-    pub next: Next,
+    // A taken target; none where control goes to the word that follows.
+    pub target: Option<BitAddress>,
 }
 
 impl Outcome {
@@ -39,7 +34,7 @@ impl Outcome {
         Outcome {
             effect,
             flags,
-            next: Next::Following,
+            target: None,
         }
     }
 }
@@ -68,19 +63,16 @@ fn put_half(registers: &mut [u64], number: u8, half: u32)
     registers[i] = with_half(word, number, half);
 }
 
-// The one step of an instruction that does not go by items. What is stored lies in memory, as the verdict has shown.
+// The one step of an instruction that does not go by items. What is stored lies in memory, as the verdict has shown. Every effect is listed.
 pub fn apply(effect: Effect, memory: &mut [u8], registers: &mut [u64])
     requires { (length registers.old ≡ 256) × Reaches effect memory.old }
     ensures { Applied effect memory.old registers.old memory.new registers.new }
 {
     match effect {
         Effect::Nothing => {}
-        Effect::Register { number, value } => {
-            let i = number as usize;
-            registers[i] = value;
-        }
+        Effect::Register { number, value } => registers[number as usize] = value,
         Effect::HalfRegister { number, value } => put_half(registers, number, value),
-        Effect::Byte { at, value } => memory::write_byte(memory, at, value as u64),
-        Effect::Word { at, value } => memory::write_word(memory, at, value),
+        Effect::Byte { at, value } => memory::write::<BYTE>(memory, at, value as u64),
+        Effect::Word { at, value } => memory::write::<WORD>(memory, at, value),
     }
 }

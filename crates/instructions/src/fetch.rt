@@ -5,21 +5,21 @@ ghost use Rattle.instructions.specs.Fetch.{long_in, length_of, there, two_halves
 
 use crate::operands::code_in;
 use crate::table;
-use crate::table::Found;
-use fields::memory::{read_half_word, read_word};
+use fields::bytes::{HALF_WORD, WORD};
+use fields::memory;
 use fields::units::{BitAddress, BitCount, ByteCount, ORIGIN};
 
 // The word is one of 64 bits.
+#[tactic(auto, unfolding(crate::specs::Fetch::long_in))]
 pub fn is_long(word: u64) -> bool
     ensures { result ≡ long_in word }
 {
     if word < 0x8000_0000_0000_0000 { // no code below 80 has 64 bits
         return false;
     }
-    let found = table::find(code_in(word) as u8);
-    match found {
-        Found::Nothing => false,
-        Found::At(row) => row.long(),
+    match table::find(code_in(word)) {
+        None => false,
+        Some(row) => row.long(),
     }
 }
 
@@ -48,20 +48,22 @@ fn there(p: BitAddress, half_words: u64, lent: ByteCount) -> bool
 }
 
 // The 64 bits at P, with zeros for those that are not in memory.
+#[tactic(auto, unfolding(crate::specs::Fetch::two_halves_at))]
 fn word_at(memory: &[u8], p: BitAddress) -> u64
     ensures { result ≡ two_halves_at (length memory.now) (num memory.now) p.0 }
 {
     let lent = ByteCount(memory.len() as u64);
     if there(p, 2, lent) {
-        return read_word(memory, p);
+        return memory::read::<WORD>(memory, p);
     }
     if there(p, 1, lent) {
-        return read_half_word(memory, p) << 32;
+        return memory::read::<HALF_WORD>(memory, p) << 32;
     }
     0
 }
 
 // A 32-bit word stands in the left half, with zeros right.
+#[tactic(auto, unfolding(crate::specs::Fetch::fetch_of))]
 pub fn fetch(memory: &[u8], p: BitAddress) -> u64
     ensures { result ≡ fetch_of (length memory.now) (num memory.now) p.0 }
 {

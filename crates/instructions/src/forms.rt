@@ -1,263 +1,166 @@
-// The forms of each vector: with a control field or without, A and B fields or values. Each calls the loop once for each form, with its code as a
-// literal, and passes on what the branch has told: so the compiler makes a loop of its own of every call, which asks nothing an item. One call that took
-// the code as a parameter would be proved as well, and would be one loop that asks the code for every item (tests/loops).
-ghost use Rattle.std.specs.Prelude.{false, ◌+◌, ◌/◌};
-ghost use Rattle.instructions.specs.Private.Loops.{lanes_for, lanes_of, lanes_alone, LanesReach, AloneReach, makes_at, width_at, Suited, Turned};
+// The forms of each vector: what its code makes of an item, and its loop, chosen once by where the plan has A and B and by which items are stored.
+ghost use Rattle.std.specs.Prelude.{◌≡◌, ℕ, ◌+◌, ◌*◌, ◌<◌};
+ghost use Rattle.instructions.specs.Meanings.{plain};
+ghost use Rattle.instructions.specs.Private.Loops.{makes_at, width_at, Wide, InReach, PlanReach, vector_shape_of, Turned, TurnedBy, AloneTurnedBy};
 
-use crate::items::VectorPlan;
-use crate::lanes::{Lanes, lanes_of};
-use crate::loops::{half_items, word_items};
+use crate::items::{Gated, Source, Stretch, VectorPlan};
+use crate::lanes::{Broadcast, Lane, Lanes, Ungated, Words};
+use crate::loops::items;
+use fields::bytes::{HALF_WORD, WORD};
+use numbers::contracts::contract;
+use numbers::flags::Made;
+use numbers::whole::whole;
+use numbers::{Rounding, shifts, words};
 
-// Code 83: vector add low 48.
-pub fn add(m: &mut [u8], at: Lanes, from: usize, count: usize, flags: u64) -> u64
-    requires { LanesReach m.old at 8 (from + count) }
-    ensures { Turned (lanes_of (makes_at 0x83) 64 at) from count m.old flags m.new result }
+// A word that sets no flags.
+fn plain(word: u64) -> Made<u64>
+    ensures { result ≡ plain word }
 {
-    let fa = at.a.field;
-    let fb = at.b.field;
-    let fz = at.z.some;
-    if fz {
-        if fa {
-            if fb {
-                word_items(m, 0x83, fa, fb, fz, at, from, count, flags)
-            } else {
-                word_items(m, 0x83, fa, fb, fz, at, from, count, flags)
-            }
-        } else if fb {
-            word_items(m, 0x83, fa, fb, fz, at, from, count, flags)
-        } else {
-            word_items(m, 0x83, fa, fb, fz, at, from, count, flags)
-        }
-    } else if fa {
-        if fb {
-            word_items(m, 0x83, fa, fb, fz, at, from, count, flags)
-        } else {
-            word_items(m, 0x83, fa, fb, fz, at, from, count, flags)
-        }
-    } else if fb {
-        word_items(m, 0x83, fa, fb, fz, at, from, count, flags)
-    } else {
-        word_items(m, 0x83, fa, fb, fz, at, from, count, flags)
+    Made {
+        item: word,
+        flags: 0,
     }
 }
 
-// Code 87: vector subtract low 48.
-pub fn subtract(m: &mut [u8], at: Lanes, from: usize, count: usize, flags: u64) -> u64
-    requires { LanesReach m.old at 8 (from + count) }
-    ensures { Turned (lanes_of (makes_at 0x87) 64 at) from count m.old flags m.new result }
+// A half word, as the word of its bits. No From: it would stand in numbers, which has no use of it.
+fn of_half(res: Made<u32>) -> Made<u64>
+    ensures { result ≡ res }
 {
-    let fa = at.a.field;
-    let fb = at.b.field;
-    let fz = at.z.some;
-    if fz {
-        if fa {
-            if fb {
-                word_items(m, 0x87, fa, fb, fz, at, from, count, flags)
-            } else {
-                word_items(m, 0x87, fa, fb, fz, at, from, count, flags)
-            }
-        } else if fb {
-            word_items(m, 0x87, fa, fb, fz, at, from, count, flags)
-        } else {
-            word_items(m, 0x87, fa, fb, fz, at, from, count, flags)
-        }
-    } else if fa {
-        if fb {
-            word_items(m, 0x87, fa, fb, fz, at, from, count, flags)
-        } else {
-            word_items(m, 0x87, fa, fb, fz, at, from, count, flags)
-        }
-    } else if fb {
-        word_items(m, 0x87, fa, fb, fz, at, from, count, flags)
-    } else {
-        word_items(m, 0x87, fa, fb, fz, at, from, count, flags)
+    Made {
+        item: res.item as u64,
+        flags: res.flags,
     }
 }
 
-// Code 8A: vector shift.
-pub fn shift(m: &mut [u8], at: Lanes, from: usize, count: usize, flags: u64) -> u64
-    requires { LanesReach m.old at 8 (from + count) }
-    ensures { Turned (lanes_of (makes_at 0x8A) 64 at) from count m.old flags m.new result }
+// The loop of an operation whose sources are known, by the plan's control.
+fn by_control<F: Fn(u64, u64) -> Made<u64>, A: Lane, B: Lane, const WIDTH: usize>(
+    m: &mut [u8],
+    made: F,
+    a: A,
+    b: B,
+    plan: VectorPlan,
+    part: Stretch,
+) -> u64
+    requires callable { F.IsAlwaysCallable made }
+    requires reach { Wide WIDTH × InReach m.old (A.source a) (B.source b) plan.control plan.result (8 * WIDTH) (part.from + part.count) }
+    ensures { TurnedBy (F.post made) (A.source a) (B.source b) plan.control plan.result (8 * WIDTH) part m.old m.new result }
 {
-    let fa = at.a.field;
-    let fb = at.b.field;
-    let fz = at.z.some;
-    if fz {
-        if fa {
-            if fb {
-                word_items(m, 0x8A, fa, fb, fz, at, from, count, flags)
-            } else {
-                word_items(m, 0x8A, fa, fb, fz, at, from, count, flags)
-            }
-        } else if fb {
-            word_items(m, 0x8A, fa, fb, fz, at, from, count, flags)
-        } else {
-            word_items(m, 0x8A, fa, fb, fz, at, from, count, flags)
-        }
-    } else if fa {
-        if fb {
-            word_items(m, 0x8A, fa, fb, fz, at, from, count, flags)
-        } else {
-            word_items(m, 0x8A, fa, fb, fz, at, from, count, flags)
-        }
-    } else if fb {
-        word_items(m, 0x8A, fa, fb, fz, at, from, count, flags)
-    } else {
-        word_items(m, 0x8A, fa, fb, fz, at, from, count, flags)
+    let c = plan.result / 8;
+    match plan.control {
+        None => items::<F, A, B, Ungated, WIDTH>(
+            m,
+            made,
+            Lanes {
+                a,
+                b,
+                z: Ungated,
+                c,
+            },
+            part,
+        ),
+        Some(z) => items::<F, A, B, Gated, WIDTH>(m, made, Lanes { a, b, z, c }, part),
     }
 }
 
-// Code 90: vector truncate.
-pub fn truncate(m: &mut [u8], at: Lanes, from: usize, count: usize, flags: u64) -> u64
-    requires { AloneReach m.old at 8 (from + count) }
-    ensures { Turned (lanes_alone (makes_at 0x90) 64 at) from count m.old flags m.new result }
+// The loop of an operation on A, which is known, and B.
+fn by_second<F: Fn(u64, u64) -> Made<u64>, A: Lane, const WIDTH: usize>(
+    m: &mut [u8],
+    made: F,
+    a: A,
+    plan: VectorPlan,
+    part: Stretch,
+) -> u64
+    requires callable { F.IsAlwaysCallable made }
+    requires reach { Wide WIDTH × InReach m.old (A.source a) plan.second plan.control plan.result (8 * WIDTH) (part.from + part.count) }
+    ensures { TurnedBy (F.post made) (A.source a) plan.second plan.control plan.result (8 * WIDTH) part m.old m.new result }
 {
-    let fa = at.a.field;
-    let fz = at.z.some;
-    if fz {
-        if fa {
-            word_items(m, 0x90, fa, false, fz, at, from, count, flags)
-        } else {
-            word_items(m, 0x90, fa, false, fz, at, from, count, flags)
-        }
-    } else if fa {
-        word_items(m, 0x90, fa, false, fz, at, from, count, flags)
-    } else {
-        word_items(m, 0x90, fa, false, fz, at, from, count, flags)
+    match plan.second {
+        Source::Field(base) => by_control::<_, _, _, WIDTH>(
+            m,
+            made,
+            a,
+            Words(base / 8),
+            plan,
+            part,
+        ),
+        Source::Value(value) => by_control::<_, _, _, WIDTH>(
+            m,
+            made,
+            a,
+            Broadcast(value),
+            plan,
+            part,
+        ),
     }
 }
 
-// Code 91: vector floor.
-pub fn floor(m: &mut [u8], at: Lanes, from: usize, count: usize, flags: u64) -> u64
-    requires { AloneReach m.old at 8 (from + count) }
-    ensures { Turned (lanes_alone (makes_at 0x91) 64 at) from count m.old flags m.new result }
+// An operation on A and B.
+fn of_two<F: Fn(u64, u64) -> Made<u64>, const WIDTH: usize>(
+    m: &mut [u8],
+    made: F,
+    plan: VectorPlan,
+    part: Stretch,
+) -> u64
+    requires callable { F.IsAlwaysCallable made }
+    requires reach { Wide WIDTH × PlanReach m.old plan (8 * WIDTH) (part.from + part.count) }
+    ensures { TurnedBy (F.post made) plan.first plan.second plan.control plan.result (8 * WIDTH) part m.old m.new result }
 {
-    let fa = at.a.field;
-    let fz = at.z.some;
-    if fz {
-        if fa {
-            word_items(m, 0x91, fa, false, fz, at, from, count, flags)
-        } else {
-            word_items(m, 0x91, fa, false, fz, at, from, count, flags)
-        }
-    } else if fa {
-        word_items(m, 0x91, fa, false, fz, at, from, count, flags)
-    } else {
-        word_items(m, 0x91, fa, false, fz, at, from, count, flags)
+    match plan.first {
+        Source::Field(base) => by_second::<_, _, WIDTH>(m, made, Words(base / 8), plan, part),
+        Source::Value(value) => by_second::<_, _, WIDTH>(m, made, Broadcast(value), plan, part),
     }
 }
 
-// Code 92: vector ceiling.
-pub fn ceiling(m: &mut [u8], at: Lanes, from: usize, count: usize, flags: u64) -> u64
-    requires { AloneReach m.old at 8 (from + count) }
-    ensures { Turned (lanes_alone (makes_at 0x92) 64 at) from count m.old flags m.new result }
+// An operation on A alone.
+fn of_one<F: Fn(u64) -> Made<u64>, const WIDTH: usize>(
+    m: &mut [u8],
+    made: F,
+    plan: VectorPlan,
+    part: Stretch,
+) -> u64
+    requires callable { F.IsAlwaysCallable made }
+    requires reach { Wide WIDTH × PlanReach m.old plan (8 * WIDTH) (part.from + part.count) }
+    ensures { AloneTurnedBy (F.post made) plan (8 * WIDTH) part m.old m.new result }
 {
-    let fa = at.a.field;
-    let fz = at.z.some;
-    if fz {
-        if fa {
-            word_items(m, 0x92, fa, false, fz, at, from, count, flags)
-        } else {
-            word_items(m, 0x92, fa, false, fz, at, from, count, flags)
-        }
-    } else if fa {
-        word_items(m, 0x92, fa, false, fz, at, from, count, flags)
-    } else {
-        word_items(m, 0x92, fa, false, fz, at, from, count, flags)
+    let b = Broadcast(0);
+    let of_a = move |x: u64, _y: u64| made(x);
+    match plan.first {
+        Source::Field(base) => by_control::<_, _, _, WIDTH>(
+            m,
+            of_a,
+            Words(base / 8),
+            b,
+            plan,
+            part,
+        ),
+        Source::Value(value) => by_control::<_, _, _, WIDTH>(
+            m,
+            of_a,
+            Broadcast(value),
+            b,
+            plan,
+            part,
+        ),
     }
 }
 
-// Code 98: vector transmit.
-pub fn transmit(m: &mut [u8], at: Lanes, from: usize, count: usize, flags: u64) -> u64
-    requires { AloneReach m.old at 8 (from + count) }
-    ensures { Turned (lanes_alone (makes_at 0x98) 64 at) from count m.old flags m.new result }
-{
-    let fa = at.a.field;
-    let fz = at.z.some;
-    if fz {
-        if fa {
-            word_items(m, 0x98, fa, false, fz, at, from, count, flags)
-        } else {
-            word_items(m, 0x98, fa, false, fz, at, from, count, flags)
-        }
-    } else if fa {
-        word_items(m, 0x98, fa, false, fz, at, from, count, flags)
-    } else {
-        word_items(m, 0x98, fa, false, fz, at, from, count, flags)
-    }
-}
-
-// Code 96: vector contract.
-pub fn contract(m: &mut [u8], at: Lanes, from: usize, count: usize, flags: u64) -> u64
-    requires { AloneReach m.old at 4 (from + count) }
-    ensures { Turned (lanes_alone (makes_at 0x96) 32 at) from count m.old flags m.new result }
-{
-    let fa = at.a.field;
-    let fz = at.z.some;
-    if fz {
-        if fa {
-            half_items(m, 0x96, fa, fz, at, from, count, flags)
-        } else {
-            half_items(m, 0x96, fa, fz, at, from, count, flags)
-        }
-    } else if fa {
-        half_items(m, 0x96, fa, fz, at, from, count, flags)
-    } else {
-        half_items(m, 0x96, fa, fz, at, from, count, flags)
-    }
-}
-
-// Code 97: vector rounded contract.
-pub fn rounded_contract(m: &mut [u8], at: Lanes, from: usize, count: usize, flags: u64) -> u64
-    requires { AloneReach m.old at 4 (from + count) }
-    ensures { Turned (lanes_alone (makes_at 0x97) 32 at) from count m.old flags m.new result }
-{
-    let fa = at.a.field;
-    let fz = at.z.some;
-    if fz {
-        if fa {
-            half_items(m, 0x97, fa, fz, at, from, count, flags)
-        } else {
-            half_items(m, 0x97, fa, fz, at, from, count, flags)
-        }
-    } else if fa {
-        half_items(m, 0x97, fa, fz, at, from, count, flags)
-    } else {
-        half_items(m, 0x97, fa, fz, at, from, count, flags)
-    }
-}
-
-// The vector of a code, by its lanes.
-fn by_code(m: &mut [u8], code: u64, at: Lanes, from: usize, count: usize, flags: u64) -> u64
-    requires { LanesReach m.old at (width_at code / 8) (from + count) × Suited code at }
-    ensures { Turned (lanes_of (makes_at code) (width_at code) at) from count m.old flags m.new result }
+// A stretch of the vector of a code, which is a number of the word: one match on it is one jump. No other code has items of any width.
+#[tactic(auto, unfolding(crate::specs::Private::Loops::width_at, crate::specs::Private::Loops::makes_at, crate::specs::Table::meaning_of))]
+pub fn vector(m: &mut [u8], code: u64, plan: VectorPlan, part: Stretch) -> u64
+    requires { PlanReach m.old plan (width_at code) (part.from + part.count) × (0 < width_at code) }
+    ensures { Turned (vector_shape_of plan (width_at code) (makes_at code)) part.from part.count m.old part.flags m.new result }
 {
     match code {
-        0x83 => add(m, at, from, count, flags),
-        0x87 => subtract(m, at, from, count, flags),
-        0x8A => shift(m, at, from, count, flags),
-        0x90 => truncate(m, at, from, count, flags),
-        0x91 => floor(m, at, from, count, flags),
-        0x92 => ceiling(m, at, from, count, flags),
-        0x96 => contract(m, at, from, count, flags),
-        0x97 => rounded_contract(m, at, from, count, flags),
-        0x98 => transmit(m, at, from, count, flags),
-        _ => flags,
+        0x83 => of_two::<_, WORD>(m, |x, y| plain(words::add(x, y)), plan, part),
+        0x87 => of_two::<_, WORD>(m, |x, y| plain(words::subtract(x, y)), plan, part),
+        0x8A => of_two::<_, WORD>(m, |x, y| plain(shifts::shift(x, y)), plan, part),
+        0x90 => of_one::<_, WORD>(m, |x| whole(Rounding::Zero, x), plan, part),
+        0x91 => of_one::<_, WORD>(m, |x| whole(Rounding::Down, x), plan, part),
+        0x92 => of_one::<_, WORD>(m, |x| whole(Rounding::Up, x), plan, part),
+        0x96 => of_one::<_, HALF_WORD>(m, |x| of_half(contract(x, false)), plan, part),
+        0x97 => of_one::<_, HALF_WORD>(m, |x| of_half(contract(x, true)), plan, part),
+        0x98 => of_one::<_, WORD>(m, plain, plan, part),
+        // No vector's code, which is never asked: a code is a number, so that no list of arms is whole.
+        _ => part.flags,
     }
-}
-
-// Items from..from + count of the vector of a code.
-pub fn vector(
-    m: &mut [u8],
-    code: u64,
-    plan: VectorPlan,
-    from: usize,
-    count: usize,
-    flags: u64,
-) -> u64
-    requires { LanesReach m.old (lanes_for plan) (width_at code / 8) (from + count) × Suited code (lanes_for plan) }
-    ensures { Turned (lanes_of (makes_at code) (width_at code) (lanes_for plan)) from count m.old flags m.new result }
-{
-    let at = lanes_of(plan);
-    by_code(m, code, at, from, count, flags)
 }

@@ -1,88 +1,87 @@
-// A vector by plain numbers: what its loops work with.
-ghost use Rattle.std.specs.Prelude.{◌≡◌, cond};
-ghost use Rattle.instructions.specs.Private.Loops.{lane_of, gating_of, lanes_for};
+// Where a vector's items come from, and which are stored: a type for each way, and a trait for what the loop of vectors (loops.rt) asks of any.
+ghost use Rattle.std.specs.Prelude.{◌≡◌, Option, Some, None, ◌+◌, ◌*◌, ◌≤◌, length};
+ghost use Rattle.fields.specs.Bytes.{num, size};
+ghost use Rattle.instructions.specs.declared.items.Source.{Source};
+ghost use Rattle.instructions.specs.declared.items.Source.TheVariants.{Field, Value};
+ghost use Rattle.instructions.specs.declared.items.Gated.{Gated};
+ghost use Rattle.instructions.specs.Items.{value_at};
+ghost use Rattle.instructions.specs.Plan.{source_item, control_bit, sense_of};
+ghost use Rattle.instructions.specs.Private.Loops.{SourceReach, ControlReach, Gate};
 
-use crate::items::{Control, Source, VectorPlan};
+use crate::items::Gated;
+use fields::bytes::{self, WORD};
 
-// A source by plain numbers: its first byte, or its value.
-#[derive(Clone, Copy)]
-pub struct Lane {
-    pub field: bool,
-    pub byte: usize,
-    pub value: u64,
+// A source of words. That memory is no larger than a call allows is asked here and below: a slice that is lent has no invariant to say it.
+pub trait Lane: Copy {
+    ghost source: { Self → Source };
+
+    // Item i.
+    fn word(self, m: &[u8], i: usize) -> u64
+        requires { (length m.now ≤ 65536) × SourceReach m.now (i + 1) (source self) }
+        ensures { result ≡ value_at (size m.now) 64 (source_item (source self) i) (num m.now) };
 }
 
-// A control field by its first bit, and the control bit of an item that is stored; without one all are.
+// Words of memory, by the byte that the first begins with.
 #[derive(Clone, Copy)]
-pub struct Gating {
-    pub some: bool,
-    pub bit: usize,
-    pub sense: u64,
+pub struct Words(pub usize);
+
+impl Lane for Words {
+    ghost source = { λ s. Field (8 * s.0) };
+
+    fn word(self, m: &[u8], i: usize) -> u64 {
+        bytes::read::<WORD>(m, self.0 + i * WORD)
+    }
 }
 
-// A vector by plain numbers: A, B, Z, and C by its first byte.
+// One word for every item.
 #[derive(Clone, Copy)]
-pub struct Lanes {
-    pub a: Lane,
-    pub b: Lane,
-    pub z: Gating,
+pub struct Broadcast(pub u64);
+
+impl Lane for Broadcast {
+    ghost source = { λ s. Value s.0 };
+
+    fn word(self, _m: &[u8], _i: usize) -> u64 {
+        self.0
+    }
+}
+
+// Which items are stored.
+pub trait Gating: Copy {
+    ghost control: { Self → Option Gated };
+
+    // Whether item i is: 1 or 0, a number, so that the loop has no branch on it.
+    fn gate(self, m: &[u8], i: usize) -> u64
+        requires { (length m.now ≤ 65536) × ControlReach m.now (i + 1) (control self) }
+        ensures { Gate result (value_at (size m.now) 1 (control_bit (control self) i) (num m.now)) (sense_of (control self)) };
+}
+
+// All of them.
+#[derive(Clone, Copy)]
+pub struct Ungated;
+
+impl Gating for Ungated {
+    ghost control = { λ s. None };
+
+    fn gate(self, _m: &[u8], _i: usize) -> u64 {
+        1
+    }
+}
+
+// Those whose control bit says so.
+impl Gating for Gated {
+    ghost control = { λ s. Some s };
+
+    fn gate(self, m: &[u8], i: usize) -> u64 {
+        let bit = bytes::bit(m, self.base + i);
+        if self.ones { bit } else { 1 - bit }
+    }
+}
+
+// A vector's lanes: A, B, Z, and C by its first byte.
+#[derive(Clone, Copy)]
+pub struct Lanes<A, B, Z> {
+    pub a: A,
+    pub b: B,
+    pub z: Z,
     pub c: usize,
-}
-
-// A source's numbers.
-fn one_lane(source: Source) -> Lane
-    ensures { result ≡ lane_of source }
-{
-    match source {
-        Source::Field(base) => Lane {
-            field: true,
-            byte: base / 8,
-            value: 0,
-        },
-        Source::Value(value) => Lane {
-            field: false,
-            byte: 0,
-            value,
-        },
-    }
-}
-
-// The control bit of an item that is stored.
-fn sense(ones: bool) -> u64
-    ensures { result ≡ cond ones 1 0 }
-{
-    if ones { 1 } else { 0 }
-}
-
-// A control field's numbers.
-fn one_gating(control: Control) -> Gating
-    ensures { result ≡ gating_of control }
-{
-    match control {
-        Control::Every => Gating {
-            some: false,
-            bit: 0,
-            sense: 1,
-        },
-        Control::Where { base, ones } => Gating {
-            some: true,
-            bit: base,
-            sense: sense(ones),
-        },
-    }
-}
-
-// A plan's numbers.
-pub fn lanes_of(plan: VectorPlan) -> Lanes
-    ensures { result ≡ lanes_for plan }
-{
-    let first = plan.first;
-    let second = plan.second;
-    let control = plan.control;
-    Lanes {
-        a: one_lane(first),
-        b: one_lane(second),
-        z: one_gating(control),
-        c: plan.result / 8,
-    }
 }

@@ -1,14 +1,16 @@
 // The fields of an instruction, from its word and operands alone: what the checks go by.
-ghost use Rattle.std.specs.Prelude.{◌≡◌, min, ◌<◌};
+ghost use Rattle.std.specs.Prelude.{◌≡◌};
+ghost use Rattle.fields.specs.Gathers.{bit_items, bits_of_r, bits_of_s};
 ghost use Rattle.fields.specs.declared.extents.Unit.TheVariants.{Byte, HalfWord, Word};
 ghost use Rattle.instructions.specs.Operands.{length_in, base_in, indexed};
-ghost use Rattle.instructions.specs.Layout.{fields_at, no_fields, addressed_item, load_at, store_at, source_of, short_of, control_of, result_of, vector_of, runs_of, zeros_of, compress_of, woven_of, merge_of, mask_of, move_of, branch_fields, of_kind};
+ghost use Rattle.instructions.specs.Layout.{no_fields, addressed_item, load_at, store_at, source_of, short_of, control_of, result_of, vector_of, runs_of, zeros_of, compress_of, woven_of, move_of, branch_fields, of_kind};
 
-use crate::branches::{taken, target};
-use crate::operands::{Operands, g_bit_3, g_bit_4};
+use crate::instruction::Instruction;
+use crate::operands::{Operands, g_bit};
 use crate::table::Kind;
+use crate::words::part;
 use fields::extents::Field;
-use fields::gathers::Runs;
+use fields::gathers::{Rule, Runs};
 use fields::units::{BitAddress, BitCount, ByteCount, HalfWordCount, WRAP, WordCount};
 
 // A field of no bits is not there: a source that is broadcast or not used, the control field of Z 00, what nothing is read from, and all of an instruction that
@@ -19,24 +21,17 @@ pub struct Fields {
     pub first: Field,
     pub second: Field,
     pub control: Field,
-    // A vector source has fewer items than the result.
+    // A vector source has fewer items than the result: a fact of its own, on which no other field hangs.
     pub short: bool,
-    // The branch is taken, and goes there.
-    pub taken: bool,
-    pub target: BitAddress,
+    // Where a branch goes that is taken.
+    pub target: Option<BitAddress>,
 }
 
 // A descriptor's length.
-fn length_in(d: u64) -> u64
-    ensures { (result ≡ length_in d) × (result < 65536) }
-{
-    d >> 48
-}
-
-pub fn run_in(d: u64) -> u16
+pub fn length_in(d: u64) -> u16
     ensures { result ≡ length_in d }
 {
-    length_in(d) as u16
+    (d >> 48) as u16
 }
 
 // A descriptor's base.
@@ -49,40 +44,25 @@ pub fn base_in(d: u64) -> BitAddress
 pub fn plus_bytes(d: u64, index: u64) -> BitAddress
     ensures { result ≡ indexed Byte d index }
 {
-    let from = BitAddress(d);
-    let count = ByteCount(index);
-    from.plus(count.shifted())
-}
-
-fn plus_words(d: u64, index: u64) -> BitAddress
-    ensures { result ≡ indexed Word d index }
-{
-    let from = BitAddress(d);
-    let count = WordCount(index);
-    from.plus(count.shifted())
-}
-
-fn fields_at(res: Field, first: Field, second: Field, control: Field, short: bool) -> Fields
-    ensures { result ≡ fields_at res first second control short }
-{
-    Fields {
-        result: res,
-        first,
-        second,
-        control,
-        short,
-        taken: false,
-        target: BitAddress(0),
-    }
+    BitAddress(d).plus(ByteCount(index).shifted())
 }
 
 fn no_fields() -> Fields
     ensures { result ≡ no_fields }
 {
     let none = Field::absent();
-    fields_at(none, none, none, none, false)
+    Fields {
+        result: none,
+        first: none,
+        second: none,
+        control: none,
+        short: false,
+        target: None,
+    }
 }
 
+// The two that follow, and words and half words at C, differ in their unit alone. One over the unit is no plainer: each unit has a count and a constructor
+// of a field of its own (fields/src/units.rt says why), so a trait would have an impl for each as long as the function is.
 // Codes 12 and 13: the byte at R plus S bytes.
 pub fn byte_at(o: Operands) -> Field
     ensures { result ≡ addressed_item Byte o }
@@ -94,85 +74,81 @@ pub fn byte_at(o: Operands) -> Field
 pub fn word_at(o: Operands) -> Field
     ensures { result ≡ addressed_item Word o }
 {
-    Field::of_words(plus_words(o.g, o.x), WordCount(1))
+    let at = BitAddress(o.g).plus(WordCount(o.x).shifted());
+    Field::of_words(at, WordCount(1))
 }
 
+// A load reads the field and a store writes it: two functions, for they differ in what they fill.
 fn load_at(f: Field) -> Fields
     ensures { result ≡ load_at f }
 {
-    let none = Field::absent();
-    fields_at(none, f, none, none, false)
+    Fields {
+        first: f,
+        ..no_fields()
+    }
 }
 
 fn store_at(f: Field) -> Fields
     ensures { result ≡ store_at f }
 {
-    let none = Field::absent();
-    fields_at(f, none, none, none, false)
+    Fields {
+        result: f,
+        ..no_fields()
+    }
 }
 
 // A vector source of n words, unless it is free of a field.
-fn source(free: bool, d: u64, n: u64) -> Field
+#[tactic(auto, unfolding(crate::specs::Layout::source_of))]
+fn source(free: bool, d: u64, n: u16) -> Field
     ensures { result ≡ source_of free d n }
 {
     if free {
         return Field::absent();
     }
-    Field::of_words(base_in(d), WordCount(n))
+    Field::of_words(base_in(d), WordCount(n as u64))
 }
 
-fn short(free: bool, d: u64, n: u64) -> bool
+#[tactic(auto, unfolding(crate::specs::Layout::short_of))]
+fn short(free: bool, d: u64, n: u16) -> bool
     ensures { result ≡ short_of free d n }
 {
     !free & (length_in(d) < n)
 }
 
-fn control(word: u64, z: u64, n: u64) -> Field
+#[tactic(auto, unfolding(crate::specs::Layout::control_of))]
+fn control(word: u64, z: u64, n: u16) -> Field
     ensures { result ≡ control_of word z n }
 {
-    if (word >> 8) % 256 == 0 {
+    if part(word, 8) == 0 {
         return Field::absent();
     }
-    Field::of_bits(base_in(z), BitCount(n))
+    Field::of_bits(base_in(z), BitCount(n as u64))
 }
 
 fn words_at_c(o: Operands) -> Field
     ensures { result ≡ result_of Word o }
 {
-    Field::of_words(base_in(o.c), WordCount(length_in(o.c)))
+    Field::of_words(base_in(o.c), WordCount(length_in(o.c) as u64))
 }
 
 fn half_words_at_c(o: Operands) -> Field
     ensures { result ≡ result_of HalfWord o }
 {
-    Field::of_half_words(base_in(o.c), HalfWordCount(length_in(o.c)))
-}
-
-// A vector instruction of this result, with A alone as source or with A and B.
-fn vector(word: u64, o: Operands, res: Field, one: bool) -> Fields
-    ensures { result ≡ vector_of word o res one }
-{
-    let n = length_in(o.c);
-    let free_a = g_bit_3(word);
-    let free_b = one | g_bit_4(word);
-    let first = source(free_a, o.a, n);
-    let second = source(free_b, o.b, n);
-    let stored = control(word, o.z, n);
-    let less = short(free_a, o.a, n) | short(free_b, o.b, n);
-    fields_at(res, first, second, stored, less)
+    Field::of_half_words(base_in(o.c), HalfWordCount(length_in(o.c) as u64))
 }
 
 pub fn runs(o: Operands) -> Runs
     ensures { result ≡ runs_of o }
 {
     Runs {
-        r: run_in(o.g),
-        s: run_in(o.x),
-        n: run_in(o.a),
+        r: length_in(o.g),
+        s: length_in(o.x),
+        n: length_in(o.a),
     }
 }
 
 // n bits of S, unless zeros are taken for it.
+#[tactic(auto, unfolding(crate::specs::Layout::zeros_of))]
 fn unless_zeros(d: u64, n: BitCount) -> Field
     ensures { result ≡ zeros_of d n.0 }
 {
@@ -186,95 +162,87 @@ fn compress(o: Operands) -> Fields
     ensures { result ≡ compress_of o }
 {
     let lengths = runs(o);
-    let n = lengths.compress_items();
-    let to = Field::of_bits(base_in(o.a), n);
-    let from = Field::of_bits(base_in(o.g), lengths.compress_r());
-    let none = Field::absent();
-    fields_at(to, from, none, none, false)
+    Fields {
+        result: Field::of_bits(base_in(o.a), lengths.items(Rule::Compress)),
+        first: Field::of_bits(base_in(o.g), lengths.of_r(Rule::Compress)),
+        ..no_fields()
+    }
 }
 
-// A merge or a mask of n items, which read so many bits of R and of S.
-fn woven(o: Operands, n: BitCount, first_bits: BitCount, second_bits: BitCount) -> Fields
-    ensures { result ≡ woven_of o n.0 first_bits.0 second_bits.0 }
-{
-    let to = Field::of_bits(base_in(o.a), n);
-    let first = Field::of_bits(base_in(o.g), first_bits);
-    let second = unless_zeros(o.x, second_bits);
-    let none = Field::absent();
-    fields_at(to, first, second, none, false)
-}
-
-fn merge(o: Operands) -> Fields
-    ensures { result ≡ merge_of o }
+// A merge or a mask, which reads S too.
+fn woven(rule: Rule, o: Operands) -> Fields
+    ensures { result ≡ woven_of o (bit_items rule (runs_of o)) (bits_of_r rule (runs_of o)) (bits_of_s rule (runs_of o)) }
 {
     let lengths = runs(o);
-    woven(
-        o,
-        lengths.merge_items(),
-        lengths.merge_r(),
-        lengths.merge_s(),
-    )
-}
-
-fn mask(o: Operands) -> Fields
-    ensures { result ≡ mask_of o }
-{
-    let lengths = runs(o);
-    woven(o, lengths.merge_items(), lengths.mask_r(), lengths.mask_s())
-}
-
-fn least(a: u64, b: u64) -> u64
-    ensures { result ≡ min a b }
-{
-    if a < b { a } else { b }
+    Fields {
+        result: Field::of_bits(base_in(o.a), lengths.items(rule)),
+        first: Field::of_bits(base_in(o.g), lengths.of_r(rule)),
+        second: unless_zeros(o.x, lengths.of_s(rule)),
+        ..no_fields()
+    }
 }
 
 fn moved(o: Operands) -> Fields
     ensures { result ≡ move_of o }
 {
     let n = length_in(o.c);
-    let read = least(length_in(o.a), n);
-    let to = Field::of_bytes(plus_bytes(o.c, o.z), ByteCount(n));
-    let from = Field::of_bytes(plus_bytes(o.a, o.x), ByteCount(read));
-    let none = Field::absent();
-    fields_at(to, from, none, none, false)
-}
-
-fn branch(word: u64, o: Operands) -> Fields
-    ensures { result ≡ branch_fields word o }
-{
-    let none = Field::absent();
-    let goes = taken(word, o);
-    let to = target(o);
+    let read = length_in(o.a).min(n);
     Fields {
-        result: none,
-        first: none,
-        second: none,
-        control: none,
-        short: false,
-        taken: goes,
-        target: to,
+        result: Field::of_bytes(plus_bytes(o.c, o.z), ByteCount(n as u64)),
+        first: Field::of_bytes(plus_bytes(o.a, o.x), ByteCount(read as u64)),
+        ..no_fields()
     }
 }
 
-// By what the table says that the designators mean.
-pub fn of_kind(kind: Kind, word: u64, o: Operands) -> Fields
-    ensures { result ≡ of_kind kind word o }
-{
-    match kind {
-        Kind::Exit => no_fields(),
-        Kind::Register => no_fields(),
-        Kind::Branch => branch(word, o),
-        Kind::LoadByte => load_at(byte_at(o)),
-        Kind::StoreByte => store_at(byte_at(o)),
-        Kind::LoadWord => load_at(word_at(o)),
-        Kind::StoreWord => store_at(word_at(o)),
-        Kind::Compress => compress(o),
-        Kind::Merge => merge(o),
-        Kind::Mask => mask(o),
-        Kind::TwoSources => vector(word, o, words_at_c(o), false),
-        Kind::OneSource => vector(word, o, words_at_c(o), true),
-        Kind::HalfResult => vector(word, o, half_words_at_c(o), true),
-        Kind::Move => moved(o),
+impl Instruction {
+    // A vector instruction of this result, with A alone as source or with A and B.
+    #[tactic(auto, unfolding(crate::specs::Layout::vector_of))]
+    fn vector(self, res: Field, one: bool) -> Fields
+        ensures { result ≡ vector_of self.word self.operands res one }
+    {
+        let o = self.operands;
+        let n = length_in(o.c);
+        let free_a = g_bit(self.word, 3);
+        let free_b = one | g_bit(self.word, 4);
+        Fields {
+            result: res,
+            first: source(free_a, o.a, n),
+            second: source(free_b, o.b, n),
+            control: control(self.word, o.z, n),
+            short: short(free_a, o.a, n) | short(free_b, o.b, n),
+            ..no_fields()
+        }
+    }
+
+    fn branch_fields(self) -> Fields
+        ensures { result ≡ branch_fields self.word self.operands }
+    {
+        Fields {
+            target: self.goes_to(),
+            ..no_fields()
+        }
+    }
+
+    // By what the table says that the designators mean: every kind is listed, which a list of closures would not ask for.
+    #[tactic(auto, unfolding(crate::specs::Layout::of_kind))]
+    pub(crate) fn fields(self, kind: Kind) -> Fields
+        ensures { result ≡ of_kind kind self.word self.operands }
+    {
+        let o = self.operands;
+        match kind {
+            Kind::Exit | Kind::Register => no_fields(),
+            Kind::Branch => self.branch_fields(),
+            Kind::LoadByte => load_at(byte_at(o)),
+            Kind::StoreByte => store_at(byte_at(o)),
+            Kind::LoadWord => load_at(word_at(o)),
+            Kind::StoreWord => store_at(word_at(o)),
+            Kind::Compress => compress(o),
+            Kind::Merge => woven(Rule::Merge, o),
+            Kind::Mask => woven(Rule::Mask, o),
+            Kind::TwoSources => self.vector(words_at_c(o), false),
+            Kind::OneSource => self.vector(words_at_c(o), true),
+            Kind::HalfResult => self.vector(half_words_at_c(o), true),
+            Kind::Move => moved(o),
+        }
     }
 }

@@ -1,8 +1,8 @@
 // The operands of an instruction: what the registers that its designators name supply.
-ghost use Rattle.std.specs.Prelude.{◌≡◌, ◌/◌, ◌%◌, ◌^◌, ◌≤◌, ◌<◌, length};
+ghost use Rattle.std.specs.Prelude.{◌≡◌, ◌/◌, ◌%◌, ◌^◌, ◌≤◌, length};
 ghost use Rattle.instructions.specs.Operands.{code_in, g_bit, supplied, gathered};
 
-use crate::designators::designator;
+use crate::words::part;
 
 // What number 00 supplies. Its low 48 are zero: no index, no offset, a zero to compare with.
 const MACHINE_ZERO: u64 = 0x8000_0000_0000_0000;
@@ -20,41 +20,31 @@ pub struct Operands {
 }
 
 // The function of a word.
-pub fn code_in(word: u64) -> u64
-    ensures { (result ≡ code_in word) × (result < 256) }
+pub fn code_in(word: u64) -> u8
+    ensures { result ≡ code_in word }
 {
-    (word >> 56) % 256
+    part(word, 56)
 }
 
-pub fn g_bit_1(word: u64) -> bool
-    ensures { result ≡ g_bit 1 word }
+// Bit k of G, from the left.
+pub fn g_bit(word: u64, k: u64) -> bool
+    ensures { result ≡ g_bit k word }
 {
-    (word >> 54) % 2 == 1
+    (word >> 55u64.saturating_sub(k)) % 2 == 1
 }
 
-pub fn g_bit_3(word: u64) -> bool
-    ensures { result ≡ g_bit 3 word }
+// What the register supplies that this designator names. The registers are a slice, as a host lends them, here and where they are written: that there are 256
+// is asked, for a slice becomes no array of 256 without a test or a copy.
+#[tactic(auto, unfolding(crate::specs::Operands::supplied))]
+fn operand(registers: &[u64], word: u64, right: u64) -> u64
+    requires { (length registers.now ≡ 256) × (right ≤ 56) }
+    ensures { result ≡ supplied registers.now (word / 2 ^ right % 256) }
 {
-    (word >> 52) % 2 == 1
-}
-
-pub fn g_bit_4(word: u64) -> bool
-    ensures { result ≡ g_bit 4 word }
-{
-    (word >> 51) % 2 == 1
-}
-
-// What the register supplies that this designator names.
-fn operand(registers: &[u64], word: u64, s: u64) -> u64
-    requires { (length registers.now ≡ 256) × (s ≤ 48) }
-    ensures { result ≡ supplied registers.now (word / 2 ^ s % 256) }
-{
-    let t = designator(word, s);
+    let t = part(word, right);
     if t == 0 {
         return MACHINE_ZERO;
     }
-    let i = t as usize;
-    registers[i]
+    registers[t as usize]
 }
 
 // A word whose right half is zero, as that of every 32-bit instruction is, names three registers at most.

@@ -1,7 +1,6 @@
 // The one constant table: a row for each function code, and the row of a code in constant time.
 ghost use Rattle.std.specs.Prelude.{◌≡◌};
 ghost use Rattle.instructions.specs.Table.{format_of, named_of, kind_of, vector_format, long, zero_bits, found, placed, has_items};
-ghost use Rattle.instructions.specs.Private.Inner.{Stands};
 
 // The designators, each the bits of its place in a word: F R S T of 32 bits, which stand in the left half, and F G X A Y B Z C of 64.
 const R: u64 = 0x00FF_0000_0000_0000;
@@ -66,87 +65,112 @@ pub enum Kind {
     Move,
 }
 
-// Code, format (hex), allowed G bits, designators that are zero, designators where 00 has no meaning, kind.
+// How the parts of a word stand, by the numbers of the machine's documents.
+#[derive(Clone, Copy, PartialEq, Eq)]
+pub enum Format {
+    One = 0x1,
+    Three = 0x3,
+    Four = 0x4,
+    Seven = 0x7,
+    A = 0xA,
+    C = 0xC,
+}
+
+// Code, format, allowed G bits, designators that are zero, designators where 00 has no meaning, kind.
 // A designator that is in neither of the two may be 00 or anything.
 #[derive(Clone, Copy)]
-pub struct Row(pub u8, pub u8, pub u8, pub u64, pub u64, pub Kind);
+pub struct Row(pub u8, pub Format, pub u8, pub u64, pub u64, pub Kind);
 
 // A row for each code, by its name.
-const EXIT: Row = Row(0x09, 0x4, 0, R | S | T, 0, Kind::Exit);
+const EXIT: Row = Row(0x09, Format::Four, 0, R | S | T, 0, Kind::Exit);
 
-const LOAD_BYTE: Row = Row(0x12, 0x7, 0, 0, R | S | T, Kind::LoadByte);
+const LOAD_BYTE: Row = Row(0x12, Format::Seven, 0, 0, R | S | T, Kind::LoadByte);
 
-const STORE_BYTE: Row = Row(0x13, 0x7, 0, 0, R | S | T, Kind::StoreByte);
+const STORE_BYTE: Row = Row(0x13, Format::Seven, 0, 0, R | S | T, Kind::StoreByte);
 
-const BIT_COMPRESS: Row = Row(0x14, 0x7, 0, 0, R | S | T, Kind::Compress);
+const BIT_COMPRESS: Row = Row(0x14, Format::Seven, 0, 0, R | S | T, Kind::Compress);
 
-const BIT_MERGE: Row = Row(0x15, 0x7, 0, 0, R | S | T, Kind::Merge);
+const BIT_MERGE: Row = Row(0x15, Format::Seven, 0, 0, R | S | T, Kind::Merge);
 
-const BIT_MASK: Row = Row(0x16, 0x7, 0, 0, R | S | T, Kind::Mask);
+const BIT_MASK: Row = Row(0x16, Format::Seven, 0, 0, R | S | T, Kind::Mask);
 
-const EXCLUSIVE_OR: Row = Row(0x2C, 0x4, 0, 0, R | S | T, Kind::Register);
+const EXCLUSIVE_OR: Row = Row(0x2C, Format::Four, 0, 0, R | S | T, Kind::Register);
 
-const AND: Row = Row(0x2D, 0x4, 0, 0, R | S | T, Kind::Register);
+const AND: Row = Row(0x2D, Format::Four, 0, 0, R | S | T, Kind::Register);
 
-const INCLUSIVE_OR: Row = Row(0x2E, 0x4, 0, 0, R | S | T, Kind::Register);
+const INCLUSIVE_OR: Row = Row(0x2E, Format::Four, 0, 0, R | S | T, Kind::Register);
 
-const ADD_LOW_48: Row = Row(0x63, 0x4, 0, 0, R | S | T, Kind::Register);
+const ADD_LOW_48: Row = Row(0x63, Format::Four, 0, 0, R | S | T, Kind::Register);
 
-const SUBTRACT_LOW_48: Row = Row(0x67, 0x4, 0, 0, R | S | T, Kind::Register);
+const SUBTRACT_LOW_48: Row = Row(0x67, Format::Four, 0, 0, R | S | T, Kind::Register);
 
-const TRUNCATE: Row = Row(0x70, 0xA, 0, S, R | T, Kind::Register);
+const TRUNCATE: Row = Row(0x70, Format::A, 0, S, R | T, Kind::Register);
 
-const FLOOR: Row = Row(0x71, 0xA, 0, S, R | T, Kind::Register);
+const FLOOR: Row = Row(0x71, Format::A, 0, S, R | T, Kind::Register);
 
-const CEILING: Row = Row(0x72, 0xA, 0, S, R | T, Kind::Register);
+const CEILING: Row = Row(0x72, Format::A, 0, S, R | T, Kind::Register);
 
-const CONTRACT: Row = Row(0x76, 0xA, 0, S, R | HALF_T, Kind::Register);
+const CONTRACT: Row = Row(0x76, Format::A, 0, S, R | HALF_T, Kind::Register);
 
-const ROUNDED_CONTRACT: Row = Row(0x77, 0xA, 0, S, R | HALF_T, Kind::Register);
+const ROUNDED_CONTRACT: Row = Row(0x77, Format::A, 0, S, R | HALF_T, Kind::Register);
 
-const TRANSMIT: Row = Row(0x78, 0xA, 0, S, R | T, Kind::Register);
+const TRANSMIT: Row = Row(0x78, Format::A, 0, S, R | T, Kind::Register);
 
-const EXPONENT: Row = Row(0x7A, 0xA, 0, S, R | T, Kind::Register);
+const EXPONENT: Row = Row(0x7A, Format::A, 0, S, R | T, Kind::Register);
 
-const PACK: Row = Row(0x7B, 0x4, 0, 0, R | S | T, Kind::Register);
+const PACK: Row = Row(0x7B, Format::Four, 0, 0, R | S | T, Kind::Register);
 
-const LEFT_16: Row = Row(0x7C, 0xA, 0, S, R | T, Kind::Register);
+const LEFT_16: Row = Row(0x7C, Format::A, 0, S, R | T, Kind::Register);
 
-const LOAD_WORD: Row = Row(0x7E, 0x7, 0, 0, R | S | T, Kind::LoadWord);
+const LOAD_WORD: Row = Row(0x7E, Format::Seven, 0, 0, R | S | T, Kind::LoadWord);
 
-const STORE_WORD: Row = Row(0x7F, 0x7, 0, 0, R | S | T, Kind::StoreWord);
+const STORE_WORD: Row = Row(0x7F, Format::Seven, 0, 0, R | S | T, Kind::StoreWord);
 
-const VECTOR_ADD_LOW_48: Row = Row(0x83, 0x1, G_134, X | Y, A | B | C, Kind::TwoSources);
+const VECTOR_ADD_LOW_48: Row = Row(0x83, Format::One, G_134, X | Y, A | B | C, Kind::TwoSources);
 
-const VECTOR_SUBTRACT_LOW_48: Row = Row(0x87, 0x1, G_134, X | Y, A | B | C, Kind::TwoSources);
+const VECTOR_SUBTRACT_LOW_48: Row = Row(
+    0x87,
+    Format::One,
+    G_134,
+    X | Y,
+    A | B | C,
+    Kind::TwoSources,
+);
 
-const VECTOR_SHIFT: Row = Row(0x8A, 0x1, G_134, X | Y, A | B | C, Kind::TwoSources);
+const VECTOR_SHIFT: Row = Row(0x8A, Format::One, G_134, X | Y, A | B | C, Kind::TwoSources);
 
-const VECTOR_TRUNCATE: Row = Row(0x90, 0x1, G_13, X | Y | B, A | C, Kind::OneSource);
+const VECTOR_TRUNCATE: Row = Row(0x90, Format::One, G_13, X | Y | B, A | C, Kind::OneSource);
 
-const VECTOR_FLOOR: Row = Row(0x91, 0x1, G_13, X | Y | B, A | C, Kind::OneSource);
+const VECTOR_FLOOR: Row = Row(0x91, Format::One, G_13, X | Y | B, A | C, Kind::OneSource);
 
-const VECTOR_CEILING: Row = Row(0x92, 0x1, G_13, X | Y | B, A | C, Kind::OneSource);
+const VECTOR_CEILING: Row = Row(0x92, Format::One, G_13, X | Y | B, A | C, Kind::OneSource);
 
-const VECTOR_CONTRACT: Row = Row(0x96, 0x1, G_1, X | Y | B, A | C, Kind::HalfResult);
+const VECTOR_CONTRACT: Row = Row(0x96, Format::One, G_1, X | Y | B, A | C, Kind::HalfResult);
 
-const VECTOR_ROUNDED_CONTRACT: Row = Row(0x97, 0x1, G_1, X | Y | B, A | C, Kind::HalfResult);
+const VECTOR_ROUNDED_CONTRACT: Row = Row(
+    0x97,
+    Format::One,
+    G_1,
+    X | Y | B,
+    A | C,
+    Kind::HalfResult,
+);
 
-const VECTOR_TRANSMIT: Row = Row(0x98, 0x1, G_13, X | Y | B, A | C, Kind::OneSource);
+const VECTOR_TRANSMIT: Row = Row(0x98, Format::One, G_13, X | Y | B, A | C, Kind::OneSource);
 
-const ADD_BRANCH_IF_EQUAL: Row = Row(0xB0, 0xC, G_4, 0, B | C, Kind::Branch);
+const ADD_BRANCH_IF_EQUAL: Row = Row(0xB0, Format::C, G_4, 0, B | C, Kind::Branch);
 
-const ADD_BRANCH_IF_NOT_EQUAL: Row = Row(0xB1, 0xC, G_4, 0, B | C, Kind::Branch);
+const ADD_BRANCH_IF_NOT_EQUAL: Row = Row(0xB1, Format::C, G_4, 0, B | C, Kind::Branch);
 
-const ADD_BRANCH_IF_GREATER_OR_EQUAL: Row = Row(0xB2, 0xC, G_4, 0, B | C, Kind::Branch);
+const ADD_BRANCH_IF_GREATER_OR_EQUAL: Row = Row(0xB2, Format::C, G_4, 0, B | C, Kind::Branch);
 
-const ADD_BRANCH_IF_LESS: Row = Row(0xB3, 0xC, G_4, 0, B | C, Kind::Branch);
+const ADD_BRANCH_IF_LESS: Row = Row(0xB3, Format::C, G_4, 0, B | C, Kind::Branch);
 
-const ADD_BRANCH_IF_LESS_OR_EQUAL: Row = Row(0xB4, 0xC, G_4, 0, B | C, Kind::Branch);
+const ADD_BRANCH_IF_LESS_OR_EQUAL: Row = Row(0xB4, Format::C, G_4, 0, B | C, Kind::Branch);
 
-const ADD_BRANCH_IF_GREATER: Row = Row(0xB5, 0xC, G_4, 0, B | C, Kind::Branch);
+const ADD_BRANCH_IF_GREATER: Row = Row(0xB5, Format::C, G_4, 0, B | C, Kind::Branch);
 
-const MOVE_BYTES_LEFT: Row = Row(0xF8, 0x3, 0, Y, A | C, Kind::Move);
+const MOVE_BYTES_LEFT: Row = Row(0xF8, Format::Three, 0, Y, A | C, Kind::Move);
 
 // The table.
 const ROWS: [Row; 38] = [
@@ -202,22 +226,21 @@ impl Row {
     pub fn has_items(self) -> bool
         ensures { result ≡ has_items (kind_of self) }
     {
-        let kind = self.5;
-        match kind {
-            Kind::Exit => false,
-            Kind::Register => false,
-            Kind::Branch => false,
-            Kind::LoadByte => false,
-            Kind::StoreByte => false,
-            Kind::LoadWord => false,
-            Kind::StoreWord => false,
-            Kind::Compress => true,
-            Kind::Merge => true,
-            Kind::Mask => true,
-            Kind::TwoSources => true,
-            Kind::OneSource => true,
-            Kind::HalfResult => true,
-            Kind::Move => true,
+        match self.5 {
+            Kind::Exit
+            | Kind::Register
+            | Kind::Branch
+            | Kind::LoadByte
+            | Kind::StoreByte
+            | Kind::LoadWord
+            | Kind::StoreWord => false,
+            Kind::Compress
+            | Kind::Merge
+            | Kind::Mask
+            | Kind::TwoSources
+            | Kind::OneSource
+            | Kind::HalfResult
+            | Kind::Move => true,
         }
     }
 
@@ -232,105 +255,82 @@ impl Row {
     pub fn vector(self) -> bool
         ensures { result ≡ vector_format (format_of self) }
     {
-        self.1 == 0x1
+        self.1 == Format::One
     }
 
     // Whether the words have 64 bits, and a G.
     pub fn long(self) -> bool
         ensures { result ≡ long (format_of self) }
     {
-        let format = self.1;
-        if format == 0x1 {
-            return true;
+        match self.1 {
+            Format::One | Format::Three | Format::C => true,
+            Format::Four | Format::Seven | Format::A => false,
         }
-        if format == 0x3 {
-            return true;
-        }
-        format == 0xC
     }
 
     // The bits of a word that are to be zero.
     pub fn zero_bits(self) -> u64
         ensures { result ≡ zero_bits self }
     {
-        let zero = self.3;
-        let refused = 0xFF - self.2;
         if self.long() {
-            zero | (refused as u64 * 0x1_0000_0000_0000)
+            self.3 | ((0xFF - self.2) as u64 * 0x1_0000_0000_0000)
         } else {
-            zero | 0xFFFF_FFFF
+            self.3 | 0xFFFF_FFFF
         }
     }
 }
 
-#[derive(Clone, Copy)]
-pub enum Found {
-    At(Row),
-    Nothing,
-}
-
-// The row of a code, by cases: a jump, and no copy of a table.
-fn look(code: u8) -> Found
-    ensures { Stands result code }
-{
-    match code {
-        0x09 => Found::At(EXIT),
-        0x12 => Found::At(LOAD_BYTE),
-        0x13 => Found::At(STORE_BYTE),
-        0x14 => Found::At(BIT_COMPRESS),
-        0x15 => Found::At(BIT_MERGE),
-        0x16 => Found::At(BIT_MASK),
-        0x2C => Found::At(EXCLUSIVE_OR),
-        0x2D => Found::At(AND),
-        0x2E => Found::At(INCLUSIVE_OR),
-        0x63 => Found::At(ADD_LOW_48),
-        0x67 => Found::At(SUBTRACT_LOW_48),
-        0x70 => Found::At(TRUNCATE),
-        0x71 => Found::At(FLOOR),
-        0x72 => Found::At(CEILING),
-        0x76 => Found::At(CONTRACT),
-        0x77 => Found::At(ROUNDED_CONTRACT),
-        0x78 => Found::At(TRANSMIT),
-        0x7A => Found::At(EXPONENT),
-        0x7B => Found::At(PACK),
-        0x7C => Found::At(LEFT_16),
-        0x7E => Found::At(LOAD_WORD),
-        0x7F => Found::At(STORE_WORD),
-        0x83 => Found::At(VECTOR_ADD_LOW_48),
-        0x87 => Found::At(VECTOR_SUBTRACT_LOW_48),
-        0x8A => Found::At(VECTOR_SHIFT),
-        0x90 => Found::At(VECTOR_TRUNCATE),
-        0x91 => Found::At(VECTOR_FLOOR),
-        0x92 => Found::At(VECTOR_CEILING),
-        0x96 => Found::At(VECTOR_CONTRACT),
-        0x97 => Found::At(VECTOR_ROUNDED_CONTRACT),
-        0x98 => Found::At(VECTOR_TRANSMIT),
-        0xB0 => Found::At(ADD_BRANCH_IF_EQUAL),
-        0xB1 => Found::At(ADD_BRANCH_IF_NOT_EQUAL),
-        0xB2 => Found::At(ADD_BRANCH_IF_GREATER_OR_EQUAL),
-        0xB3 => Found::At(ADD_BRANCH_IF_LESS),
-        0xB4 => Found::At(ADD_BRANCH_IF_LESS_OR_EQUAL),
-        0xB5 => Found::At(ADD_BRANCH_IF_GREATER),
-        0xF8 => Found::At(MOVE_BYTES_LEFT),
-        _ => Found::Nothing,
-    }
-}
-
-// The row of a code, or that the code is not in the table.
-pub fn find(code: u8) -> Found
+// The row of a code, or none where it is not in the table. By cases: a jump, and no copy of a table.
+#[tactic(auto, unfolding(crate::specs::Table::found))]
+pub fn find(code: u8) -> Option<Row>
     ensures { result ≡ found code }
 {
-    look(code)
+    match code {
+        0x09 => Some(EXIT),
+        0x12 => Some(LOAD_BYTE),
+        0x13 => Some(STORE_BYTE),
+        0x14 => Some(BIT_COMPRESS),
+        0x15 => Some(BIT_MERGE),
+        0x16 => Some(BIT_MASK),
+        0x2C => Some(EXCLUSIVE_OR),
+        0x2D => Some(AND),
+        0x2E => Some(INCLUSIVE_OR),
+        0x63 => Some(ADD_LOW_48),
+        0x67 => Some(SUBTRACT_LOW_48),
+        0x70 => Some(TRUNCATE),
+        0x71 => Some(FLOOR),
+        0x72 => Some(CEILING),
+        0x76 => Some(CONTRACT),
+        0x77 => Some(ROUNDED_CONTRACT),
+        0x78 => Some(TRANSMIT),
+        0x7A => Some(EXPONENT),
+        0x7B => Some(PACK),
+        0x7C => Some(LEFT_16),
+        0x7E => Some(LOAD_WORD),
+        0x7F => Some(STORE_WORD),
+        0x83 => Some(VECTOR_ADD_LOW_48),
+        0x87 => Some(VECTOR_SUBTRACT_LOW_48),
+        0x8A => Some(VECTOR_SHIFT),
+        0x90 => Some(VECTOR_TRUNCATE),
+        0x91 => Some(VECTOR_FLOOR),
+        0x92 => Some(VECTOR_CEILING),
+        0x96 => Some(VECTOR_CONTRACT),
+        0x97 => Some(VECTOR_ROUNDED_CONTRACT),
+        0x98 => Some(VECTOR_TRANSMIT),
+        0xB0 => Some(ADD_BRANCH_IF_EQUAL),
+        0xB1 => Some(ADD_BRANCH_IF_NOT_EQUAL),
+        0xB2 => Some(ADD_BRANCH_IF_GREATER_OR_EQUAL),
+        0xB3 => Some(ADD_BRANCH_IF_LESS),
+        0xB4 => Some(ADD_BRANCH_IF_LESS_OR_EQUAL),
+        0xB5 => Some(ADD_BRANCH_IF_GREATER),
+        0xF8 => Some(MOVE_BYTES_LEFT),
+        _ => None,
+    }
 }
 
 // The row at a place of the table, from 0, for who goes through all of it.
-pub fn row_at(place: usize) -> Found
+pub fn row_at(place: usize) -> Option<Row>
     ensures { result ≡ placed place }
 {
-    let rows = ROWS;
-    if place < 38 {
-        let row = rows[place];
-        return Found::At(row);
-    }
-    Found::Nothing
+    ROWS.get(place).copied()
 }

@@ -3,7 +3,8 @@ ghost use Rattle.std.specs.Prelude.{◌≡◌, ◌+◌, ◌/◌, ◌%◌, ◌^�
 ghost use Rattle.std.specs.Int.Bits.{bit_and, bit_or};
 ghost use Rattle.instructions.specs.Words.{parts_of, joined, uncontrolled, not_zero, missing, refusal_number, decoded, reading, assembled};
 
-use crate::table::{Found, Row, find};
+use crate::operands::{code_in, g_bit};
+use crate::table::{Row, find};
 
 // The eight bytes of a word, from the left. A 32-bit instruction stands in the left half: R, S and T are g, x and a, and the others are zero.
 #[derive(Clone, Copy)]
@@ -18,113 +19,76 @@ pub struct Parts {
     pub c: u8,
 }
 
-// Why a word is refused by itself.
-#[derive(Clone, Copy)]
+// What is said of an instruction that is not done, by the numbers that a call says.
+#[derive(Clone, Copy, PartialEq, Eq)]
 pub enum Refusal {
-    NotListed, // 5: function not in the table
-    NotZero, // Refusal 6: a bit that is to be zero isn't
-    NoMeaning, // 7: designator 00, or half word 00 or 01, where that has no meaning
-}
-
-#[derive(Clone, Copy)]
-pub enum Decoded {
-    Listed(Row),
-    Refused(Refusal),
-}
-
-#[derive(Clone, Copy)]
-pub enum Reading {
-    Listed(Parts),
-    Refused(Refusal),
-}
-
-#[derive(Clone, Copy)]
-pub enum Assembled {
-    Word(u64),
-    Refused(Refusal),
+    NotThere = 4, // the word at P is not wholly in memory
+    NotListed = 5, // function not in the table
+    NotZero = 6, // a bit that is to be zero isn't
+    NoMeaning = 7, // designator 00, or half word 00 or 01, where that has no meaning
+    Misaligned = 8, // a field or a taken target begins at no multiple of its unit
+    Short = 9, // a vector source has fewer items than the result
+    Outside = 10, // a field is not wholly in memory
+    Shared = 11, // the result shares a bit with a field that is read
 }
 
 impl Refusal {
-    // The number that a call says.
     pub fn number(self) -> u64
         ensures { result ≡ refusal_number self }
     {
-        match self {
-            Refusal::NotListed => 5,
-            Refusal::NotZero => 6,
-            Refusal::NoMeaning => 7,
+        self as u64
+    }
+}
+
+// The part of a word, a byte, that has so many bits to its right.
+pub(crate) fn part(word: u64, right: u64) -> u8
+    requires { right ≤ 56 }
+    ensures { result ≡ word / 2 ^ right % 256 }
+{
+    ((word >> right) % 256) as u8
+}
+
+impl From<u64> for Parts {
+    ghost from_gives = { λ word parts. parts ≡ parts_of word };
+
+    // The parts of any word, listed or not.
+    fn from(word: u64) -> Parts {
+        let [f, g, x, a, y, b, z, c] = word.to_be_bytes();
+        Parts {
+            f,
+            g,
+            x,
+            a,
+            y,
+            b,
+            z,
+            c,
         }
     }
 }
 
-// A byte as a word: what a call returns is known to be the byte itself.
-fn wide(x: u8) -> u64
-    ensures { result ≡ x }
-{
-    x as u64
-}
+impl From<Parts> for u64 {
+    ghost from_gives = { λ parts word. word ≡ joined parts };
 
-// The byte of the word that has s bits to its right.
-fn byte(word: u64, s: u64) -> u8
-    requires { s ≤ 56 }
-    ensures { result ≡ word / 2 ^ s % 256 }
-{
-    ((word >> s) % 256) as u8
-}
-
-fn take_apart(word: u64) -> Parts
-    ensures { result ≡ parts_of word }
-{
-    Parts {
-        f: byte(word, 56),
-        g: byte(word, 48),
-        x: byte(word, 40),
-        a: byte(word, 32),
-        y: byte(word, 24),
-        b: byte(word, 16),
-        z: byte(word, 8),
-        c: byte(word, 0),
+    // The parts put together, whatever they are.
+    fn from(p: Parts) -> u64 {
+        u64::from_be_bytes([p.f, p.g, p.x, p.a, p.y, p.b, p.z, p.c])
     }
-}
-
-fn join(p: Parts) -> u64
-    ensures { result ≡ joined p }
-{
-    let c = wide(p.c);
-    let z = wide(p.z) * 0x100 + c;
-    let b = wide(p.b) * 0x1_0000 + z;
-    let y = wide(p.y) * 0x100_0000 + b;
-    let a = wide(p.a) * 0x1_0000_0000 + y;
-    let x = wide(p.x) * 0x100_0000_0000 + a;
-    let g = wide(p.g) * 0x1_0000_0000_0000 + x;
-    wide(p.f) * 0x100_0000_0000_0000 + g
 }
 
 // G bit 1 with Z 00.
 fn uncontrolled(word: u64) -> bool
     ensures { result ≡ uncontrolled word }
 {
-    let control = (word >> 54) % 2;
-    if control == 1 {
-        let z = (word >> 8) % 256;
-        return z == 0;
-    }
-    false
+    g_bit(word, 1) && part(word, 8) == 0
 }
 
-// Refusal 6: a bit that is to be zero isn't.
+// Refusal 6.
+#[tactic(auto, unfolding(crate::specs::Words::not_zero))]
 fn not_zero(row: Row, word: u64) -> bool
     ensures { result ≡ not_zero row word }
 {
-    let bits = row.zero_bits();
-    let stray = word & bits;
-    if stray != 0 {
-        return true;
-    }
-    if row.vector() {
-        return uncontrolled(word);
-    }
-    false
+    word & row.zero_bits() != 0 || (row.vector() && uncontrolled(word))
 }
 
 // 80 in the place of each byte of x that is not 00, all eight at once: 7F added to a byte's right seven bits reaches its left bit unless they are 0.
@@ -143,43 +107,37 @@ fn lacks(named: u64, word: u64) -> bool
 }
 
 // The row of a listed word, or the first of 5, 6 and 7 that refuses the word.
-pub fn decode(word: u64) -> Decoded
+#[tactic(auto, unfolding(crate::specs::Words::decoded))]
+pub fn decode(word: u64) -> Result<Row, Refusal>
     ensures { result ≡ decoded word }
 {
-    let found = find(byte(word, 56));
-    match found {
-        Found::Nothing => Decoded::Refused(Refusal::NotListed),
-        Found::At(row) => {
-            if not_zero(row, word) {
-                return Decoded::Refused(Refusal::NotZero);
-            }
-            if lacks(row.named(), word) {
-                return Decoded::Refused(Refusal::NoMeaning);
-            }
-            Decoded::Listed(row)
-        }
+    let Some(row) = find(code_in(word)) else {
+        return Err(Refusal::NotListed);
+    };
+    if not_zero(row, word) {
+        return Err(Refusal::NotZero);
     }
+    if lacks(row.named(), word) {
+        return Err(Refusal::NoMeaning);
+    }
+    Ok(row)
 }
 
 // The parts of a listed word, or its refusal.
-pub fn read(word: u64) -> Reading
+#[tactic(auto, unfolding(crate::specs::Words::reading))]
+pub fn read(word: u64) -> Result<Parts, Refusal>
     ensures { result ≡ reading word }
 {
-    let d = decode(word);
-    match d {
-        Decoded::Listed(_) => Reading::Listed(take_apart(word)),
-        Decoded::Refused(n) => Reading::Refused(n),
-    }
+    decode(word)?;
+    Ok(Parts::from(word))
 }
 
 // The word of the parts, or the refusal that reading it would give.
-pub fn assemble(parts: Parts) -> Assembled
+#[tactic(auto, unfolding(crate::specs::Words::assembled))]
+pub fn assemble(parts: Parts) -> Result<u64, Refusal>
     ensures { result ≡ assembled parts }
 {
-    let word = join(parts);
-    let d = decode(word);
-    match d {
-        Decoded::Listed(_) => Assembled::Word(word),
-        Decoded::Refused(n) => Assembled::Refused(n),
-    }
+    let word = u64::from(parts);
+    decode(word)?;
+    Ok(word)
 }

@@ -1,17 +1,14 @@
 -- What an instruction has that refusals 8 to 11 let pass: facts on places in the lent memory, counted in bits from its start (but `AtByte` counts
 -- addresses). Nothing here says that a source is as long as the result.
-use Rattle.std.specs.Prelude.{◌≡◌, ◌⊎◌, List, ℕ, ◌+◌, ◌*◌, ◌%◌, ◌^◌, ◌≤◌, ◌<◌, min, length}
+use Rattle.std.specs.Prelude.{◌≡◌, ◌⊎◌, List, Option, Some, None, ℕ, ◌+◌, ◌*◌, ◌%◌, ◌^◌, ◌≤◌, ◌<◌, min, length}
 use Rattle.fields.specs.declared.extents.Unit.TheVariants as unit
 use Rattle.fields.specs.Field.{Apart}
 use Rattle.fields.specs.Bytes.{num, size}
-use Rattle.fields.specs.Gathers.{past_r, past_s, furthest}
+use Rattle.fields.specs.Gathers.{past_r, past_s, furthest, bit_items}
 use Rattle.instructions.specs.declared.items.Source.{Source}
 use Rattle.instructions.specs.declared.items.Source.TheVariants.{Field, Value}
-use Rattle.instructions.specs.declared.items.Control.{Control}
-use Rattle.instructions.specs.declared.items.Control.TheVariants.{Every, Where}
+use Rattle.instructions.specs.declared.items.Gated.{Gated}
 use Rattle.instructions.specs.declared.items.VectorPlan.{VectorPlan}
-use Rattle.instructions.specs.declared.items.SecondBits.{SecondBits}
-use Rattle.instructions.specs.declared.items.SecondBits.TheVariants.{From, Zeros}
 use Rattle.instructions.specs.declared.items.BitPlan.{BitPlan}
 use Rattle.instructions.specs.declared.items.MovePlan.{MovePlan}
 use Rattle.fields.specs.Memory.{AtByte}
@@ -21,7 +18,7 @@ use Rattle.instructions.specs.Operands.{meaning_in, address_in}
 use Rattle.instructions.specs.declared.effects.Effect.{Effect}
 use Rattle.instructions.specs.declared.effects.Effect.TheVariants.{Nothing, Register, HalfRegister, Byte, Word}
 use Rattle.instructions.specs.Effects.{registers_after, memory_after}
-use Rattle.instructions.specs.Plan.{taken_by, bit_items, Plan, vectors, bit_runs, byte_move, items_of}
+use Rattle.instructions.specs.Plan.{taken_by, Plan, vectors, bit_runs, byte_move, items_of}
 
 -- If n is not 0, the n bits at a lie in a memory of L bits and share none with the k bits at c: a field of which nothing is read is not checked.
 abbrev pub Away : ℕ → ℕ → ℕ → ℕ → ℕ → Type 0
@@ -40,9 +37,9 @@ SourcePasses L c w n (Field a) = WordsPass L c w n a
 SourcePasses L c w n (Value v) = Unit {0}
 
 -- The n bits of a control field lie in memory and apart from the result of n items of w bits at c.
-abbrev pub ControlPasses : ℕ → ℕ → ℕ → ℕ → Control → Type 0
-ControlPasses L c w n Every = Unit {0}
-ControlPasses L c w n (Where z ones) = (z + n ≤ L) × Apart c (n * w) z n
+abbrev pub ControlPasses : ℕ → ℕ → ℕ → ℕ → Option Gated → Type 0
+ControlPasses L c w n None = Unit {0}
+ControlPasses L c w n (Some z) = (z.base + n ≤ L) × Apart c (n * w) z.base n
 
 -- What a vector has, with result items of w bits: its result and each field that it reads pass.
 pub record VectorPasses (L w : ℕ) (v : VectorPlan) : Type 0 where
@@ -53,9 +50,9 @@ pub record VectorPasses (L w : ℕ) (v : VectorPlan) : Type 0 where
   pub control : ControlPasses L v.result w v.items v.control
 
 -- S of a bit instruction passes, of which e bits are read, for a result of n bits at c; it begins below 2^48, as every address does.
-abbrev pub SecondPasses : ℕ → ℕ → ℕ → ℕ → SecondBits → Type 0
-SecondPasses L c n e (From b) = (b < 2 ^ 48) × Away L c n b e
-SecondPasses L c n e Zeros = Unit {0}
+abbrev pub SecondPasses : ℕ → ℕ → ℕ → ℕ → Option ℕ → Type 0
+SecondPasses L c n e (Some b) = (b < 2 ^ 48) × Away L c n b e
+SecondPasses L c n e None = Unit {0}
 
 -- The items of a bit instruction, and how far they read R and S.
 abbrev pub bits_of : BitPlan → ℕ

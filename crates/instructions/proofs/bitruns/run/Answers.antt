@@ -2,35 +2,10 @@
 use mathlib.Core.Path.{◌≡◌, ap, ◌∙◌}
 use Prim.Native.Nat.{ℕ, ◌+◌, ◌-◌, ◌%◌}
 use native.Mathlib.Omega.{arith}
-use borrow.Author.Rules.{rules}
 use Rattle.fields.specs.Bytes.{num, size}
 use Rattle.fields.specs.Field.{field}
 use Rattle.instructions.proofs.Wordwise.{joined_bits}
 use Rattle.instructions.proofs.bitruns.run.Goals as goal
-
-pub overflow_sub-h : goal.overflow_sub-h
-overflow_sub-h c = search rules
-
-pub in_word-requires : goal.in_word-requires
-in_word-requires c = search rules
-
-pub overflow_sub-l : goal.overflow_sub-l
-overflow_sub-l c = search rules
-
-pub in_word-x-requires : goal.in_word-x-requires
-in_word-x-requires c = search rules
-
-pub overflow_add-at : goal.overflow_add-at
-overflow_add-at c = search rules
-
-pub in_word-y-requires : goal.in_word-y-requires
-in_word-y-requires c = search rules
-
-pub overflow_shl-result : goal.overflow_shl-result
-overflow_shl-result c = search rules
-
-pub returns-then-n-h : goal.returns-then-n-h
-returns-then-n-h c = search rules
 
 pub returns-else-n-h : goal.returns-else-n-h
 returns-else-n-h c =

@@ -1,4 +1,4 @@
--- `instructions::branches::less`: signed numbers are compared as coefficients, which a signed local holds as they are.
+-- Signed numbers are compared as coefficients, which a signed local holds as they are.
 use mathlib.Core.Path.{ap₂}
 use lib.Signed.{lt_z}
 use Rattle.instructions.proofs.Held.{held}
@@ -11,4 +11,4 @@ returns-then-unsigned c = rw c.if-unsigned.true
 
 pub returns-else-unsigned : goal.returns-else-unsigned
 unfolding less
-returns-else-unsigned c = rw c.if-unsigned.false (ap₂ lt_z (held _ _ c.of_word-x.ensures) (held _ _ c.of_word-y.ensures))
+returns-else-unsigned c = rw c.if-unsigned.false (ap₂ lt_z (held _ _ c.from.ensures) (held _ _ c.from-else-unsigned.ensures))

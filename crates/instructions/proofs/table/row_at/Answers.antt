@@ -1,13 +1,10 @@
--- `instructions::table::row_at` meets its contract.
-use Rattle.instructions.specs.Table.{table, placed}
-use Rattle.instructions.proofs.TablePlaces.{row_placed, none_placed}
-use native.Mathlib.Omega.{arith}
+-- The element at a place, copied.
+use mathlib.Core.List.{map}
+use mathlib.Core.Path.{◌∙◌}
+use Rattle.instructions.specs.Table.{row_of, table, placed}
+use Rattle.instructions.proofs.TablePlaces.{copied}
 use Rattle.instructions.proofs.table.row_at.Goals as goal
-
-pub returns-then-place-lt38 : goal.returns-then-place-lt38
-unfolding placed
-returns-then-place-lt38 c = row_placed table c.args.place _ (omega arith)
 
 pub returns : goal.returns
 unfolding placed
-returns c = none_placed table c.args.place (omega arith)
+returns c = c.copied.ensures ∙ copied (map row_of table) c.args.place c.get.result c.get.ensures.lookup

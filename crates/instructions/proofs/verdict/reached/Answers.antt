@@ -1,5 +1,0 @@
--- Aligned and inside.
-use Rattle.instructions.proofs.verdict.reached.Goals as goal
-
-pub returns : goal.returns
-returns c = cc
