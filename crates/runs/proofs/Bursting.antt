@@ -1,11 +1,11 @@
 -- The items of a word are steps one by one: doing j of them at once is j steps of the definition.
-use mathlib.Core.Path.{◌≡◌, subst, ◌∙◌, ap}
+use mathlib.Core.Path.{◌≡◌, ◌∙◌, ap}
 use mathlib.Core.Bool.{true}
 use mathlib.Core.List.{List}
 use Prim.Native.Nat.{ℕ, zero, suc, ◌+◌, ◌-◌, ◌<◌, ◌≤◌, min}
 use native.Mathlib.Omega.{arith}
 use lib.Dec.{leb, eqb}
-use borrow.Author.Tests.{lt-ltb, le-ltb, le-leb, ne_eqb, eqb-true, leb-true, ltb-true}
+use Rattle.std.proofs.lemmas.Bool.{lt-ltb, le-ltb, le-leb, ne_eqb, eqb-true, leb-true, ltb-true, and_parts}
 use Rattle.instructions.specs.declared.operands.Operands.{Operands}
 use Rattle.instructions.specs.Fetch.{length_of}
 use Rattle.instructions.specs.Operands.{gathered}
@@ -14,11 +14,10 @@ use Rattle.instructions.specs.Items.{worked}
 use Rattle.instructions.specs.Instruction.{by_items, count_of}
 use Rattle.instructions.proofs.Steps.{works_more}
 use Rattle.runs.specs.declared.records.Record.{Record}
-use Rattle.runs.specs.declared.performs.Performed.{Performed}
+use Rattle.runs.specs.declared.strides.Did.{Did}
 use Rattle.runs.specs.Records.{half_done, half, between}
 use Rattle.runs.specs.Steps.{State, at, lent_at, Stepped, next, after, works_at, burst, held, step, bind, strides}
-use Rattle.runs.specs.Private.Inner.{Performs, Bursts}
-use Rattle.runs.proofs.Choices.{and_true}
+use Rattle.runs.specs.Private.Inner.{instruction, Bursts, Proceeds}
 
 -- a word of items that passes its checks where s stands
 pub record Stands (s : State) (word : ℕ) : Type 0 where
@@ -36,10 +35,10 @@ pub record Holds (bytes : ℕ) (registers : List ℕ) (c : Record) : Type 0 wher
 pub holds_of : (bytes : ℕ) (registers : List ℕ) (c : Record) → half_done bytes registers c ≡ true → Holds bytes registers c
 unfolding half_done
 holds_of bytes registers c h =
-    let h₁ = and_true (eqb c.mark 1) _ h in
-    let h₂ = and_true (by_items c.word) _ h₁.1 in
-    let h₃ = and_true (eqb (verdict_of c.p c.word (gathered c.word registers) bytes) 0) _ h₂.1 in
-    let h₄ = and_true (leb 1 c.items) _ h₃.1 in
+    let h₁ = and_parts (eqb c.mark 1) _ h in
+    let h₂ = and_parts (by_items c.word) _ h₁.1 in
+    let h₃ = and_parts (eqb (verdict_of c.p c.word (gathered c.word registers) bytes) 0) _ h₂.1 in
+    let h₄ = and_parts (leb 1 c.items) _ h₃.1 in
     record {
       marked = eqb-true _ _ h₁.0;
       of_items = h₂.0;
@@ -104,23 +103,17 @@ pub strides_some : (word i : ℕ) (s : State) → Stands s word → step s ≡ n
 strides_some word i s h first zero some few = absurd (omega arith)
 strides_some word i s h first (suc j) some few = strides_burst word i s h first j few
 
-performs_known : (m registers : List ℕ) (c : Record) (word i most : ℕ) → Stands (lent_at m registers c) word
+-- items i, .. of a word whose next step is item i
+pub proceeds_burst : (m registers : List ℕ) (c : Record) (word i most : ℕ) → Stands (lent_at m registers c) word
     → step (lent_at m registers c) ≡ next (burst word (gathered word registers) i 1 (lent_at m registers c))
     → i < count_of word (gathered word registers) → 0 < most
-    → (m' : List ℕ) (r : Performed) → Bursts m c word (gathered word registers) i (min (count_of word (gathered word registers) - i) most) m' r
-    → Performs (lent_at m registers c) most (lent_at m' registers) r
+    → (m' : List ℕ) (d : Did) → Bursts m (instruction c.p word (gathered word registers)) c.flags i (min (count_of word (gathered word registers) - i) most) m' d
+    → Proceeds (lent_at m registers c) most (lent_at m' registers) d
 unfolding burst
-performs_known m registers c word i most h first short some m' r b =
+proceeds_burst m registers c word i most h first short some m' d b =
     let j = min (count_of word (gathered word registers) - i) most in
-    rw (b.did, b.memory, b.as_long)
-    (omega arith, (omega arith, strides_some word i (lent_at m registers c) h first j (omega arith) (omega arith)))
-
--- what `go_on` does is what `Performs` asks
-pub performs_burst : (m registers : List ℕ) (c : Record) (word : ℕ) (o : Operands) (i most : ℕ) → o ≡ gathered word registers
-    → Stands (lent_at m registers c) word
-    → step (lent_at m registers c) ≡ next (burst word (gathered word registers) i 1 (lent_at m registers c))
-    → i < count_of word (gathered word registers) → 0 < most
-    → (m' : List ℕ) (r : Performed) → Bursts m c word o i (min (count_of word o - i) most) m' r
-    → Performs (lent_at m registers c) most (lent_at m' registers) r
-performs_burst m registers c word o i most named h first short some m' r does =
-    performs_known m registers c word i most h first short some m' r (subst (λ (x : Operands). Bursts m c word x i (min (count_of word x - i) most) m' r) named does)
+    record {
+      some = rw b.does (omega arith);
+      few = rw b.does (omega arith);
+      steps = rw (b.does, b.memory, b.as_long) (strides_some word i (lent_at m registers c) h first j (omega arith) (omega arith));
+    }

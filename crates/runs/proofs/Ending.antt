@@ -9,15 +9,14 @@ use lib.ListN.{length}
 use borrow.Author.Tests.{eqb-true, eqb-false}
 use Rattle.runs.specs.declared.answers.Answer.{Answer}
 use Rattle.runs.specs.declared.answers.Answer.TheVariants.{Paused, Lengths, Impossible}
-use Rattle.runs.specs.declared.answers.Said.{Said}
-use Rattle.runs.specs.declared.answers.Said.TheVariants.{Ends, Allows}
+use Rattle.std.specs.Prelude.{Result, Ok, Err}
 use Rattle.runs.specs.Answers.{number_of, said_of, OfChecks}
 use Rattle.runs.specs.Records.{possible}
 use Rattle.runs.specs.Steps.{State, ended, next, verdict_at, step, strides}
 use Rattle.runs.specs.Calls.{Stopped, iterate, lengths_right, Sound, Called, call, closed, afterwards, run}
 use Rattle.runs.proofs.Numbered.{said_number, allows_passes}
 use Rattle.runs.proofs.Soundness.{strides_sound, possible_marked}
-use Rattle.runs.proofs.Iterating.{iterate_strides, iterate_ended, Came, came}
+use Rattle.runs.proofs.Iterating.{ended_next, iterate_strides, iterate_ended, Came, came}
 use Rattle.runs.proofs.Bursting.{step_held}
 use Rattle.runs.proofs.Performing.{step_refused, step_begun}
 
@@ -85,27 +84,23 @@ ran n s = go (lengths_right s.bytes (length s.registers)) refl (possible s.bytes
 -- a sound state whose next step ends stands between two instructions, and what the checks say of its word is why
 pub record Why (t : State) (a : Answer) : Type 0 where
   pub unmarked : t.rec.mark ≡ 0
-  pub said : said_of (verdict_at t) ≡ Ends a
+  pub said : said_of (verdict_at t) ≡ Err a
 
 pub why : (t : State) (a : Answer) → Sound t → step t ≡ ended a → Why t a
 why t a ok e = marked (eqb t.rec.mark 0) refl
   where
-    checked : t.rec.mark ≡ 0 → (x : Said) → said_of (verdict_at t) ≡ x → Why t a
-    checked m (Ends b) q =
+    checked : t.rec.mark ≡ 0 → (x : Result (Unit {0}) Answer) → said_of (verdict_at t) ≡ x → Why t a
+    checked m (Err b) q =
         let f = step_refused t b m q in
         let g : b ≡ a = cc in
-        record { unmarked = m; said = q ∙ ap (λ (c : Answer). Ends c) g }
-    checked m Allows q =
-        let f = step_begun t m (allows_passes t q) in
-        let z : ◌≡◌ {A = ℕ} 0 1 = cc in
-        absurd (omega arith)
+        record { unmarked = m; said = q ∙ ap (λ (c : Answer). Err c) g }
+    checked m (Ok _) q =
+        absurd (ended_next a _ (sym e ∙ step_begun t m (allows_passes t q)))
 
     marked : (b : Bool) → eqb t.rec.mark 0 ≡ b → Why t a
     marked true q = checked (eqb-true _ _ q) (said_of (verdict_at t)) refl
     marked false q =
-        let f = step_held t (possible_marked t.bytes t.registers t.rec ok.can (eqb-false _ _ q)) in
-        let z : ◌≡◌ {A = ℕ} 0 1 = cc in
-        absurd (omega arith)
+        absurd (ended_next a _ (sym e ∙ step_held t (possible_marked t.bytes t.registers t.rec ok.can (eqb-false _ _ q))))
 
 -- the answer's number is the verdict, and that of one of `refusals`
 pub why_number : (t : State) (a : Answer) → Why t a → number_of a ≡ verdict_at t

@@ -8,6 +8,26 @@ use Rattle.runs.specs.declared.answers.Answer.TheVariants.{Paused}
 use Rattle.runs.specs.Steps.{State, Stepped, ended, next, step, bind, strides}
 use Rattle.runs.specs.Calls.{Stopped, onward, iterate}
 
+-- an answer is no step
+pub ended_next : (a : Answer) (t : State) → ended a ≡ next t → ⊥
+ended_next a t e =
+    let z : ◌≡◌ {A = ℕ} 0 1 = cc in
+    omega arith
+
+-- no step leads nowhere else
+pub still : (s t : State) → strides 0 s ≡ next t → s ≡ t
+unfolding strides
+still s t e = cc
+
+-- the last of some steps, and what they came to before it
+pub last_stride : (j : ℕ) (s t : State) → strides (suc j) s ≡ next t → (u : State) × (strides j s ≡ next u) × (step u ≡ next t)
+unfolding strides
+last_stride j s t e = go (strides j s) refl e
+  where
+    go : (x : Stepped) → strides j s ≡ x → bind x step ≡ next t → (u : State) × (strides j s ≡ next u) × (step u ≡ next t)
+    go (ended a) q h = absurd (ended_next a t h)
+    go (next u) q h = (u, q, h)
+
 -- a first step and j more
 strides_first : (j : ℕ) (s t : State) → step s ≡ next t → strides (suc j) s ≡ strides j t
 unfolding strides
@@ -25,21 +45,14 @@ one_stride s t e = e
 
 -- steps that are taken come off the budget
 pub iterate_strides : (j k : ℕ) (s t : State) → strides j s ≡ next t → iterate (j + k) s ≡ iterate k t
-unfolding strides iterate
+unfolding iterate
 iterate_strides zero k s t e =
-    let z : s ≡ t = cc in
     let f : 0 + k ≡ k = omega arith in
-    rw (f, z)
-iterate_strides (suc j) k s t e = go (λ u q. iterate_strides j (suc k) s u q) (strides j s) refl e
-  where
-    go : ((u : State) → strides j s ≡ next u → iterate (j + suc k) s ≡ iterate (suc k) u)
-        → (x : Stepped) → strides j s ≡ x → bind x step ≡ next t → iterate (suc j + k) s ≡ iterate k t
-    go ih (ended a) q h =
-        let z : ◌≡◌ {A = ℕ} 0 1 = cc in
-        absurd (omega arith)
-    go ih (next u) q h =
-        let f : suc j + k ≡ j + suc k = omega arith in
-        rw f (ih u q ∙ rw h)
+    rw (f, still s t e)
+iterate_strides (suc j) k s t e =
+    let f : suc j + k ≡ j + suc k = omega arith in
+    let u = last_stride j s t e in
+    rw f (iterate_strides j (suc k) s u.0 u.1 ∙ rw u.2)
 
 -- an answer in place of the first step
 pub iterate_ended : (n : ℕ) (s : State) (a : Answer) → 0 < n → step s ≡ ended a → iterate n s ≡ record { state = s; answer = a; left = n }

@@ -16,15 +16,16 @@ use Rattle.instructions.proofs.Steps.{acts_registers}
 use Rattle.instructions.proofs.FlagsKept.{Kept, kept_same, kept_on, works_kept, acts_kept}
 use Rattle.instructions.proofs.Register00 as instruction
 use Rattle.runs.specs.declared.answers.Answer.TheVariants.{Impossible, Lengths}
-use Rattle.runs.specs.declared.answers.Said.{Said}
-use Rattle.runs.specs.declared.answers.Said.TheVariants.{Ends, Allows}
+use Rattle.std.specs.Prelude.{Result, Ok, Err}
+use Rattle.runs.specs.declared.answers.Answer.{Answer}
 use Rattle.runs.specs.declared.records.Record.{Record}
 use Rattle.runs.specs.Answers.{said_of}
 use Rattle.runs.specs.Records.{half_done, possible}
-use Rattle.runs.specs.Steps.{State, Stepped, ended, next, word_at, operands_at, verdict_at, after, burst, passed, finished, acted, begun, fresh, held_operands, held_at, held, step, bind, strides}
+use Rattle.runs.specs.Steps.{State, Stepped, ended, next, word_at, operands_at, verdict_at, after, burst, passed, finished, acted, begun, fresh, held_operands, held_at, held, step, strides}
 use Rattle.runs.specs.Calls.{Stopped, onward, iterate, lengths_right, call, closed, with00, run}
-use Rattle.runs.proofs.Choices.{cond_holds}
+use Rattle.std.proofs.lemmas.Bool.{cond_both}
 use Rattle.runs.proofs.Numbered.{allows_passes, led, fresh_led}
+use Rattle.runs.proofs.Iterating.{still, last_stride}
 use Rattle.runs.proofs.Ending.{ran}
 use Rattle.runs.proofs.Answering.{taken}
 
@@ -45,32 +46,26 @@ module _ (K : State → State → Type 0) where
   unfolding begun
   fresh_onto s d = subst (Onto s) (sym (fresh_led s)) (go (said_of (verdict_at s)) refl)
     where
-      go : (x : Said) → said_of (verdict_at s) ≡ x → Onto s (led x (begun s))
-      go (Ends a) q = tt
-      go Allows q =
-          cond_holds (K s) (by_items (word_at s)) _ _ (cond_holds (K s) (eqb (count_of (word_at s) (operands_at s)) 0) _ _ d.passing (d.bursting _ _ _))
-          (d.acting (allows_passes s q))
+      go : (x : Result (Unit {0}) Answer) → said_of (verdict_at s) ≡ x → Onto s (led x (begun s))
+      go (Err a) q = tt
+      go (Ok _) q =
+          cond_both (by_items (word_at s)) _ _ (K s)
+          (λ _. cond_both (eqb (count_of (word_at s) (operands_at s)) 0) _ _ (K s) (λ _. d.passing) (λ _. d.bursting _ _ _))
+          (λ _. d.acting (allows_passes s q))
 
   step_onto : (s t : State) → Does s → step s ≡ next t → K s t
   unfolding step held
   step_onto s t d e =
       subst (Onto s) e
-      (cond_holds (Onto s) (eqb s.rec.mark 0) _ _ (fresh_onto s d)
-      (cond_holds (Onto s) (half_done s.bytes s.registers s.rec) _ _ (d.bursting _ _ _) tt))
+      (cond_both (eqb s.rec.mark 0) _ _ (Onto s) (λ _. fresh_onto s d)
+      (λ _. cond_both (half_done s.bytes s.registers s.rec) _ _ (Onto s) (λ _. d.bursting _ _ _) (λ _. tt)))
 
   module _ (same : (s : State) → K s s) (on : (s t u : State) → K s t → K t u → K s u) (does : (s : State) → Does s) where
     strides_onto : (j : ℕ) (s t : State) → strides j s ≡ next t → K s t
-    unfolding strides
-    strides_onto zero s t e =
-        let z : s ≡ t = cc in
-        subst (K s) z (same s)
-    strides_onto (suc j) s t e = go (λ u q. strides_onto j s u q) (strides j s) refl e
-      where
-        go : ((u : State) → strides j s ≡ next u → K s u) → (x : Stepped) → strides j s ≡ x → bind x step ≡ next t → K s t
-        go ih (ended a) q h =
-            let z : ◌≡◌ {A = ℕ} 0 1 = cc in
-            absurd (omega arith)
-        go ih (next u) q h = on s u t (ih u q) (step_onto u t (does u) h)
+    strides_onto zero s t e = subst (K s) (still s t e) (same s)
+    strides_onto (suc j) s t e =
+        let u = last_stride j s t e in
+        on s u.0 t (strides_onto j s u.0 u.1) (step_onto u.0 t (does u.0) u.2)
 
     run_keeps : (n : ℕ) (s : State) → K s (run n s).state
     run_keeps n s = strides_onto (run n s).steps s (run n s).state (taken n s (run n s) (ran n s))
@@ -82,7 +77,7 @@ KeptIn s t = Kept s.rec.flags t.rec.flags
 
 after_flags : (n word k p f : ℕ) → (after n word k p f).flags ≡ f
 unfolding after
-after_flags n word k p f = cond_holds (λ (c : Record). c.flags ≡ f) (ltb k n) _ _ refl refl
+after_flags n word k p f = cond_both (ltb k n) _ _ (λ (c : Record). c.flags ≡ f) (λ _. refl) (λ _. refl)
 
 burst_kept : (s : State) (word : ℕ) (o : Operands) (i : ℕ) → KeptIn s (burst word o i 1 s)
 unfolding burst
@@ -154,9 +149,9 @@ module _ (v : ℕ) where
       fresh_led (with00 v s) ∙ ap (λ (n : ℕ). led (said_of n) (begun (with00 v s))) (same_verdict s) ∙ go (said_of (verdict_at s)) refl
       ∙ ap (onwards00 v) (sym (fresh_led s))
     where
-      go : (x : Said) → said_of (verdict_at s) ≡ x → led x (begun (with00 v s)) ≡ onwards00 v (led x (begun s))
-      go (Ends a) q = refl
-      go Allows q = ap next (begun_00 s (allows_passes s q))
+      go : (x : Result (Unit {0}) Answer) → said_of (verdict_at s) ≡ x → led x (begun (with00 v s)) ≡ onwards00 v (led x (begun s))
+      go (Err a) q = refl
+      go (Ok _) q = ap next (begun_00 s (allows_passes s q))
 
   held_00 : (s : State) → held (with00 v s) ≡ onwards00 v (held s)
   unfolding held

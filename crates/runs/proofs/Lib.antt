@@ -1,7 +1,5 @@
 -- `Theorems` is what the layer promises: open it first. The others are the laws behind it and behind the functions' proofs.
 pub mod Theorems  -- by demand: total, right, resumable
-pub mod Choices  -- tests, and what is picked by them
-pub mod Variants  -- an enum whose variants hold nothing: tests computed for each
 pub mod Numbered  -- answers and their numbers
 pub mod Bursting  -- items of a word are steps one by one
 pub mod Soundness  -- a step leaves a possible record

@@ -13,10 +13,10 @@ use Rattle.runs.specs.Steps.{State, Stepped, ended, next, step}
 use Rattle.runs.specs.Calls.{iterate, lengths_right, Sound, run}
 use Rattle.runs.specs.Controls.{Sight, state_in, beginning, control_after, control_within, step_control, step_controls, begin_at, finish_at}
 use Rattle.runs.specs.Private.Inner.{resume, may_go, Gone}
-use Rattle.runs.proofs.Choices.{cond_holds}
+use Rattle.std.proofs.lemmas.Bool.{cond_both, and_left}
 use Rattle.runs.proofs.Numbered.{step_answers}
 use Rattle.runs.proofs.Soundness.{step_sound}
-use Rattle.runs.proofs.Turning.{turn_over, turn_none, begins_sound, run_ends}
+use Rattle.runs.proofs.Turning.{turn_over, begins_sound, run_ends}
 
 -- after one step no more than k are left to take, and it leads where it led
 record Stepped-on (v w : Sight) (k : ℕ) : Type 0 where
@@ -49,11 +49,18 @@ stepped_going v k l goes ok e low = go (step (state_in v)) refl
         }
     go (next t) q = record { same = sym (resume_going v l goes e ∙ rw q); sound = λ h. step_sound (state_in v) t ok q; few = λ h. low }
 
+over_none : (v : Sight) → (paused v.control.answer ≡ true → v.control.left ≤ 0) → may_go v.control ≡ false
+over_none v few = go (paused v.control.answer) refl
+  where
+    go : (b : Bool) → paused v.control.answer ≡ b → (b && ltb 0 v.control.left) ≡ false
+    go true q = le-ltb _ _ (few q)
+    go false q = refl
+
 stepped_on : (v : Sight) (k : ℕ) → (paused v.control.answer ≡ true → Sound (state_in v)) → (paused v.control.answer ≡ true → v.control.left ≤ suc k) → Stepped-on v (step_control v) k
 stepped_on v k sound few = known (paused v.control.answer) refl
   where
     left : paused v.control.answer ≡ true → (n : ℕ) → v.control.left ≡ n → Stepped-on v (step_control v) k
-    left goes zero e = subst (λ (w : Sight). Stepped-on v w k) (turn_none v e) (record { same = refl; sound = sound; few = λ h. omega arith })
+    left goes zero e = subst (λ (w : Sight). Stepped-on v w k) (turn_over v (over_none v (λ _. omega arith))) (record { same = refl; sound = sound; few = λ h. omega arith })
     left goes (suc l) e =
         let low = few goes in
         subst (λ (w : Sight). Stepped-on v w k) (sym (turn_going v l goes (sound goes).lengths e)) (stepped_going v k l goes (sound goes) e (omega arith))
@@ -61,15 +68,8 @@ stepped_on v k sound few = known (paused v.control.answer) refl
     known : (b : Bool) → paused v.control.answer ≡ b → Stepped-on v (step_control v) k
     known true q = left q v.control.left refl
     known false q =
-        subst (λ (w : Sight). Stepped-on v w k) (turn_over v q)
+        subst (λ (w : Sight). Stepped-on v w k) (turn_over v (and_left _ _ q))
         (record { same = refl; sound = sound; few = λ h. absurd (false≢true (sym q ∙ h)) })
-
-over_none : (v : Sight) → (paused v.control.answer ≡ true → v.control.left ≤ 0) → may_go v.control ≡ false
-over_none v few = go (paused v.control.answer) refl
-  where
-    go : (b : Bool) → paused v.control.answer ≡ b → (b && ltb 0 v.control.left) ≡ false
-    go true q = le-ltb _ _ (few q)
-    go false q = refl
 
 turns_gone : (k : ℕ) (v : Sight) → (paused v.control.answer ≡ true → Sound (state_in v)) → (paused v.control.answer ≡ true → v.control.left ≤ k) → Gone v (step_controls k v)
 turns_gone zero v sound few = record { same = refl; over = over_none v few }
@@ -81,9 +81,9 @@ turns_gone (suc k) v sound few =
 begins_all : (s : State) (budget : ℕ) → (beginning s.bytes s.registers s.rec budget).left ≡ budget
 unfolding beginning
 begins_all s budget =
-    cond_holds (λ (c : Control). c.left ≡ budget) (lengths_right s.bytes (length s.registers)) _ _
-    (cond_holds (λ (c : Control). c.left ≡ budget) (possible s.bytes s.registers s.rec) _ _ refl refl)
-    refl
+    cond_both (lengths_right s.bytes (length s.registers)) _ _ (λ (c : Control). c.left ≡ budget)
+    (λ _. cond_both (possible s.bytes s.registers s.rec) _ _ (λ (c : Control). c.left ≡ budget) (λ _. refl) (λ _. refl))
+    (λ _. refl)
 
 begins_kept : (s : State) (n : ℕ) → paused (begin_at n s).control.answer ≡ true → Sound (state_in (begin_at n s))
 begins_kept s n h = begins_sound n s (beginning s.bytes s.registers s.rec n) refl h

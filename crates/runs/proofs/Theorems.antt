@@ -38,7 +38,7 @@ use Rattle.runs.specs.Calls.{lengths_right, Sound, Refused, Called, call, leaves
 use Rattle.runs.specs.Hosts.{LentCall, lent, handed}
 use Rattle.runs.specs.Wholes.{first_items, all_items, wholes, steps_of, Partial, cut_at, Reached, wholly, partly}
 use Rattle.runs.specs.Controls.{Sight, seen_at, step_controls, begin_at, finish_at}
-use Rattle.runs.proofs.Choices.{ne_pos}
+use Rattle.std.proofs.Math.Nat.{pos_of_ne-zero}
 use Rattle.runs.proofs.Numbered.{said_1, step_answers, later}
 use Rattle.runs.proofs.Soundness.{lengths_of, strides_sound, possible_marked}
 use Rattle.runs.proofs.Bursting.{holds_of, burst_half, burst_done}
@@ -123,7 +123,7 @@ pub record First (t : State) : Type 0 where
 
 pub first_refuses : (t : State) → First t
 first_refuses t = record {
-  refuses = λ v which. verdict_is t.rec.p (word_at t) (operands_at t) t.bytes v (ne_pos v (later v which).not_0);
+  refuses = λ v which. verdict_is t.rec.p (word_at t) (operands_at t) t.bytes v (pos_of_ne-zero (later v which).not_0);
   none_refuses = verdict_none t.rec.p (word_at t) (operands_at t) t.bytes;
 }
 

@@ -4,24 +4,23 @@ use mathlib.Core.Bool.{Bool, true, false, cond}
 use Prim.Native.Nat.{ℕ, zero, suc, ◌+◌, ◌<◌, ◌≤◌}
 use native.Mathlib.Omega.{arith}
 use lib.Dec.{eqb, ltb}
-use borrow.Author.Tests.{eqb-true, eqb-false, ltb-true, ltb-false}
+use Rattle.std.proofs.Math.Nat.{pos_of_ne-zero}
+use Rattle.std.proofs.lemmas.Bool.{eqb-true, eqb-false, ltb-true, ltb-false}
 use Rattle.fields.specs.Memory.{right_length}
 use Rattle.instructions.specs.Fetch.{length_of}
 use Rattle.instructions.specs.Items.{MemoryAndFlags, worked}
 use Rattle.instructions.specs.Instruction.{by_items, count_of, works_of}
 use Rattle.instructions.proofs.Steps.{works_none, works_whole}
 use Rattle.runs.specs.declared.answers.Answer.{Answer}
-use Rattle.runs.specs.declared.answers.Said.{Said}
-use Rattle.runs.specs.declared.answers.Said.TheVariants.{Ends, Allows}
+use Rattle.std.specs.Prelude.{Result, Ok, Err}
 use Rattle.runs.specs.Answers.{said_of}
 use Rattle.runs.specs.Records.{between}
-use Rattle.runs.specs.Steps.{State, at, Stepped, ended, next, burst, held_at, passed, acted, word_at, operands_at, verdict_at, items_at, held_operands, step, bind, strides}
+use Rattle.runs.specs.Steps.{State, at, next, burst, held_at, passed, acted, word_at, operands_at, verdict_at, items_at, held_operands, step, strides}
 use Rattle.runs.specs.Calls.{Sound}
 use Rattle.runs.specs.Wholes.{first_items, all_items, whole_step, wholes, steps_of, whole_steps, Partial, cut_at, Reached, wholly, partly}
-use Rattle.runs.proofs.Choices.{ne_pos}
 use Rattle.runs.proofs.Numbered.{said_0, allows_passes, led, answered_led}
 use Rattle.runs.proofs.Soundness.{lengths_of, strides_sound, possible_marked}
-use Rattle.runs.proofs.Iterating.{one_stride}
+use Rattle.runs.proofs.Iterating.{ended_next, still, last_stride, one_stride}
 use Rattle.runs.proofs.Bursting.{Stands, holds_of, step_held, burst_half, burst_done, burst_more, strides_some}
 use Rattle.runs.proofs.Performing.{step_refused, step_passed, step_first, step_acted}
 
@@ -46,7 +45,7 @@ whole_passes : (s : State) → verdict_at s ≡ 0 → whole_step s ≡ next (con
 unfolding whole_step
 whole_passes s passes =
     let t = cond (by_items (word_at s)) (all_items s) (acted s) in
-    answered_led (verdict_at s) t ∙ ap (λ (x : Said). led x t) (ap said_of passes ∙ said_0)
+    answered_led (verdict_at s) t ∙ ap (λ (x : Result (Unit {0}) Answer). led x t) (ap said_of passes ∙ said_0)
 
 whole_items : (s : State) → verdict_at s ≡ 0 → by_items (word_at s) ≡ true → whole_step s ≡ next (all_items s)
 whole_items s passes is = whole_passes s passes ∙ rw is
@@ -107,11 +106,6 @@ after_items s u i k j e steps lent m passes is some few t b = go (ltb k (items_a
 after_whole : (s u : State) (i j : ℕ) → wholes i s ≡ next u → j ≡ whole_steps i s + 1 → right_length u.bytes ≡ true → u.rec.mark ≡ 0 → (t : State) → step u ≡ next t → Reached s j t
 after_whole s u i j e steps lent m t h = said (said_of (verdict_at u)) refl
   where
-    ended_next : (a : Answer) → ended a ≡ next t → ⊥
-    ended_next a q =
-        let z : ◌≡◌ {A = ℕ} 0 1 = cc in
-        omega arith
-
     same : (v : State) → step u ≡ next v → t ≡ v
     same v q = cc
 
@@ -121,7 +115,7 @@ after_whole s u i j e steps lent m t h = said (said_of (verdict_at u)) refl
         let a = same _ (step_passed u m passes is none) in
         end_whole s u i 1 j e (steps_none u is none) steps t (all_items u) (a ∙ passed_all u lent passes is none) (whole_items u passes is) refl
     counts passes is false q =
-        let some : 0 < items_at u = ne_pos _ (eqb-false _ _ q) in
+        let some : 0 < items_at u = pos_of_ne-zero (eqb-false _ _ q) in
         after_items s u i 1 j e steps lent m passes is (omega arith) some t (same _ (step_first u m passes is some))
 
     kinds : verdict_at u ≡ 0 → (b : Bool) → by_items (word_at u) ≡ b → Reached s j t
@@ -130,9 +124,9 @@ after_whole s u i j e steps lent m t h = said (said_of (verdict_at u)) refl
         let a = same _ (step_acted u m passes other) in
         end_whole s u i 1 j e (steps_other u other) steps t _ a (whole_acted u passes other) refl
 
-    said : (x : Said) → said_of (verdict_at u) ≡ x → Reached s j t
-    said Allows q = kinds (allows_passes u q) (by_items (word_at u)) refl
-    said (Ends a) q = absurd (ended_next a (sym (step_refused u a m q) ∙ h))
+    said : (x : Result (Unit {0}) Answer) → said_of (verdict_at u) ≡ x → Reached s j t
+    said (Ok _) q = kinds (allows_passes u q) (by_items (word_at u)) refl
+    said (Err a) q = absurd (ended_next a t (sym (step_refused u a m q) ∙ h))
 
 -- a step from half way
 after_part : (s u : State) (i k j : ℕ) → wholes i s ≡ next u → j ≡ whole_steps i s + suc k → right_length u.bytes ≡ true → Partial u k → (t : State) → step (cut_at k u) ≡ next t → Reached s j t
@@ -152,17 +146,13 @@ after_step s v t j ok (partly i k u e steps p is) h =
 
 -- what steps lead to from between two instructions
 pub steps_reach : (j : ℕ) (s t : State) → Sound s → s.rec.mark ≡ 0 → strides j s ≡ next t → Reached s j t
-unfolding strides wholes whole_steps
+unfolding wholes whole_steps
 steps_reach zero s t ok m e =
-    let z : s ≡ t = cc in
-    wholly 0 e refl (rw z at m)
-steps_reach (suc j) s t ok m e = go (λ u q. steps_reach j s u ok m q) (strides j s) refl e
-  where
-    go : ((u : State) → strides j s ≡ next u → Reached s j u) → (x : Stepped) → strides j s ≡ x → bind x step ≡ next t → Reached s (suc j) t
-    go ih (ended a) q h =
-        let z : ◌≡◌ {A = ℕ} 0 1 = cc in
-        absurd (omega arith)
-    go ih (next u) q h = after_step s u t j (strides_sound j s u ok q) (ih u q) h
+    let z = still s t e in
+    wholly 0 (ap next z) refl (rw z at m)
+steps_reach (suc j) s t ok m e =
+    let u = last_stride j s t e in
+    after_step s u.0 t j (strides_sound j s u.0 ok u.1) (steps_reach j s u.0 ok m u.1) u.2
 
 -- k steps of an instruction with more items
 pub steps_cut : (s : State) (k : ℕ) → Sound s → Partial s k → strides k s ≡ next (cut_at k s)
@@ -184,7 +174,7 @@ steps_whole s ok m passes is = go (eqb (items_at s) 0) refl
         ap (λ (j : ℕ). strides j s) (steps_none s is none)
         ∙ one_stride s (passed s) (step_passed s m passes is none) ∙ ap next (passed_all s lent passes is none)
     go false q =
-        let some : 0 < items_at s = ne_pos _ (eqb-false _ _ q) in
+        let some : 0 < items_at s = pos_of_ne-zero (eqb-false _ _ q) in
         ap (λ (j : ℕ). strides j s) (steps_items s (items_at s) is some refl)
         ∙ strides_some (word_at s) 0 s (record { passes = passes; of_items = is }) (step_first s m passes is some) (items_at s) some (omega arith)
         ∙ ap next (burst_all s (items_at s) lent passes is refl)

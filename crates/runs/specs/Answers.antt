@@ -1,12 +1,10 @@
 -- The number of each answer, and the answers that an instruction's checks can give: section 12 of docs/MACHINE.md.
-use Rattle.std.specs.Prelude.{ℕ, ◌≡◌, Bool, List, [], ◌∷◌, eqb}
+use Rattle.std.specs.Prelude.{ℕ, ◌≡◌, Bool, List, [], ◌∷◌, eqb, Result, Ok, Err}
 use Rattle.instructions.specs.declared.words.Refusal.{Refusal}
 use Rattle.instructions.specs.Table.{look_up}
 use Rattle.instructions.specs.Words.{refusal_number}
 use Rattle.runs.specs.declared.answers.Answer.{Answer}
 use Rattle.runs.specs.declared.answers.Answer.TheVariants.{Paused, Exit, Lengths, Impossible, NotThere, NotListed, NotZero, Designator, Misaligned, Short, Outside, Shared}
-use Rattle.runs.specs.declared.answers.Said.{Said}
-use Rattle.runs.specs.declared.answers.Said.TheVariants.{Ends, Allows}
 
 -- §12.4 to §12.15: the number of each answer, in the order of the rules; refusals 5, 6 and 7 are those of a word.
 abbrev pub number_of : Answer → ℕ
@@ -29,8 +27,8 @@ refusals = Exit ∷ NotThere ∷ NotListed ∷ NotZero ∷ Designator ∷ Misali
 
 -- §12.2: what a number that the checks gave says: the answer that has it ends the run. A number of none of them, such as 0, ends nothing, and the step
 -- is taken.
-unfoldable pub said_of : ℕ → Said
-said_of n = look_up number_of (λ a. Ends a) Allows n refusals
+unfoldable pub said_of : ℕ → Result (Unit {0}) Answer
+said_of n = look_up number_of (λ a. Err a) (Ok tt) n refusals
 
 -- §12.4: answer 0, with which a run goes on where there is more budget.
 abbrev pub paused : Answer → Bool
@@ -38,4 +36,4 @@ paused a = eqb (number_of a) 0
 
 -- v is the number of one of `refusals`.
 abbrev pub OfChecks : ℕ → Type 0
-OfChecks v = (a : Answer) × (said_of v ≡ Ends a)
+OfChecks v = (a : Answer) × (said_of v ≡ Err a)

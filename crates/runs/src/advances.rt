@@ -1,37 +1,34 @@
 // As many steps as the budget allows. A word is read and judged once for all the steps that it takes in one call.
-ghost use Rattle.std.specs.Prelude.{◌≡◌, true, ◌<◌};
+#![tactic(auto, unfolding(crate::specs::Calls::lengths_right))]
+
+ghost use Rattle.std.specs.Prelude.{◌≡◌, true, ◌<◌, ◌≤◌, IfOk};
 ghost use Rattle.runs.specs.Answers.{paused};
 ghost use Rattle.runs.specs.Steps.{lent_at};
 ghost use Rattle.runs.specs.Calls.{Sound};
 ghost use Rattle.runs.specs.Controls.{seen_at};
-ghost use Rattle.runs.specs.Private.Inner.{AtMost, counted, may_go, Advanced, Gone, TakenUp, Picked};
+ghost use Rattle.runs.specs.Private.Inner.{counted, Advanced, Gone, TakenUp, Picked};
 
-use crate::answers::{Answer, is_paused};
+use crate::answers::Answer;
 use crate::checks::{goes_on, lengths_right};
 use crate::control::Control;
-use crate::performs::{Performed, burst, perform};
+use crate::fetches::held;
+use crate::performs::{burst, perform};
 use crate::records::Record;
-use instructions::operands::gather;
+use crate::strides::Did;
+use fields::units::ByteCount;
 
 // The control state after steps of one instruction, or with its answer.
-pub fn counted(rec: Record, left: u32, got: Performed) -> Control
-    requires { AtMost left got }
+pub fn counted(rec: Record, left: u32, got: Result<Did, Answer>) -> Control
+    requires { IfOk got (λ did. did.steps ≤ left) }
     ensures { result ≡ counted rec left got }
 {
     match got {
-        Performed::Did { rec: then, steps } => {
-            let rest = left - steps;
-            Control {
-                rec: then,
-                left: rest,
-                answer: Answer::Paused,
-            }
-        }
-        Performed::Ended(a) => Control {
-            rec,
-            left,
-            answer: a,
+        Ok(did) => Control {
+            rec: did.rec,
+            left: left - did.steps,
+            answer: Answer::Paused,
         },
+        Err(answer) => Control { rec, left, answer },
     }
 }
 
@@ -40,52 +37,38 @@ fn advance(c: Control, memory: &mut [u8], registers: &mut [u64]) -> Control
     requires { (0 < c.left) × (paused c.answer ≡ true) × Sound (lent_at memory.old registers.old c.rec) }
     ensures { Advanced (seen_at memory.old registers.old c) (seen_at memory.new registers.new result) }
 {
-    let rec = c.rec;
-    let left = c.left;
-    let got = perform(memory, registers, rec, left);
-    counted(rec, left, got)
+    let got = perform(memory, registers, c.rec, c.left);
+    counted(c.rec, c.left, got)
 }
 
-// Is there a step to do?
-fn may_go(c: Control) -> bool
-    ensures { result ≡ may_go c }
-{
-    let left = c.left;
-    let answer = c.answer;
-    if is_paused(answer) {
-        return 0 < left;
-    }
-    false
-}
-
-// As many steps as are left of the budget.
+// As many steps as are left of the budget. The loop counts no index: a turn takes as many steps as an instruction has, and an answer or the budget ends it.
 pub fn go(c: Control, memory: &mut [u8], registers: &mut [u64]) -> Control
     requires { paused c.answer ≡ true → Sound (lent_at memory.old registers.old c.rec) }
     ensures { Gone (seen_at memory.old registers.old c) (seen_at memory.new registers.new result) }
 {
     let mut d = c;
-    while may_go(d) {
+    while d.may_go() {
         d = advance(d, memory, registers);
     }
     d
 }
 
-// What is half done, begun and gone on with: its operands are gathered once, to be judged and to be worked with.
-fn pick_up(memory: &mut [u8], registers: &[u64], rec: Record, budget: u32) -> Performed
+// What is half done, begun and gone on with: what it holds is gathered once, to be judged and to be worked.
+fn pick_up(memory: &mut [u8], registers: &[u64], rec: Record, budget: u32) -> Result<Did, Answer>
     requires { rec.mark ≡ 1 }
     ensures { Picked budget (lent_at memory.old registers.now rec) (seen_at memory.new registers.now) result }
 {
     if !lengths_right(memory.len(), registers.len()) {
-        return Performed::Ended(Answer::Lengths);
+        return Err(Answer::Lengths);
     }
-    let o = gather(rec.word, registers);
-    if !goes_on(rec, o, memory.len() as u64) {
-        return Performed::Ended(Answer::Impossible);
+    let it = held(registers, rec);
+    if !goes_on(rec, it, ByteCount(memory.len() as u64)) {
+        return Err(Answer::Impossible);
     }
     if budget == 0 {
-        return Performed::Ended(Answer::Paused);
+        return Err(Answer::Paused);
     }
-    burst(memory, rec, rec.word, o, rec.items, budget)
+    Ok(burst(memory, it, rec.flags, rec.items, budget))
 }
 
 // Begin, and go on at once with what is half done.
@@ -96,5 +79,5 @@ pub fn take_up(memory: &mut [u8], registers: &[u64], rec: Record, budget: u32) -
         let got = pick_up(memory, registers, rec, budget);
         return counted(rec, budget, got);
     }
-    Control::begin(&memory[..], registers, rec, budget)
+    Control::begin(memory, registers, rec, budget)
 }

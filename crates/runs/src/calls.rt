@@ -18,7 +18,6 @@ pub struct Outcome {
 pub fn run(memory: &mut [u8], registers: &mut [u64], rec: Record, budget: u32) -> Outcome
     ensures { leaves (lent_at memory.new registers.new) result ≡ run budget (lent_at memory.old registers.old rec) }
 {
-    let c = take_up(memory, &registers[..], rec, budget);
-    let end = go(c, memory, registers);
-    end.finish(budget)
+    let c = take_up(memory, registers, rec, budget);
+    go(c, memory, registers).finish(budget)
 }

@@ -4,28 +4,26 @@ ghost use Rattle.runs.specs.Records.{flags_right, place_right, between_two, half
 ghost use Rattle.runs.specs.Calls.{lengths_right};
 ghost use Rattle.runs.specs.Private.Inner.{holding, goes_on};
 
+use crate::fetches::held;
 use crate::records::Record;
-use crate::typed::may_work;
 use fields::memory::lent_length_is_right;
 use fields::units::{ByteCount, WRAP};
-use instructions::instruction::count;
-use instructions::operands::{Operands, gather};
+use instructions::instruction::Instruction;
 use numbers::flags::{FLAG_42, FLAG_43, FLAG_46};
 
 // The flags that a record may have.
 const FLAGS: u64 = FLAG_42 | FLAG_43 | FLAG_46;
 
 // Whether a memory and a register file of these lengths may be lent.
+#[tactic(auto, unfolding(crate::specs::Calls::lengths_right))]
 pub fn lengths_right(bytes: usize, registers: usize) -> bool
     ensures { result ≡ lengths_right bytes registers }
 {
-    if lent_length_is_right(ByteCount(bytes as u64)) {
-        return registers == 256;
-    }
-    false
+    lent_length_is_right(ByteCount(bytes as u64)) && registers == 256
 }
 
 // Whether only those flags are set.
+#[tactic(auto, unfolding(crate::specs::Records::flags_right))]
 fn flags_right(flags: u64) -> bool
     ensures { result ≡ flags_right flags }
 {
@@ -33,79 +31,53 @@ fn flags_right(flags: u64) -> bool
 }
 
 // Whether P is an address of 48 bits, at a half word.
+#[tactic(auto, unfolding(crate::specs::Records::place_right))]
 fn place_right(p: u64) -> bool
     ensures { result ≡ place_right p }
 {
-    if p < WRAP {
-        return p % 32 == 0;
-    }
-    false
+    p < WRAP && p % 32 == 0
 }
 
 // Whether nothing is half done, and nothing is held.
+#[tactic(auto, unfolding(crate::specs::Records::between_two))]
 fn between_two(rec: Record) -> bool
     ensures { result ≡ between_two rec }
 {
-    if rec.mark == 0 {
-        if rec.word == 0 {
-            return rec.items == 0;
-        }
-    }
-    false
+    rec.mark == 0 && rec.word == 0 && rec.items == 0
 }
 
-// Whether the held word is a vector, bit or move instruction that passes its checks with these operands, some of its items done and not all.
-fn holding(rec: Record, o: Operands, bytes: u64) -> bool
-    ensures { result ≡ holding bytes o rec }
+// Whether it is a vector, bit or move instruction that passes its checks, so many of its items done, and not all.
+#[tactic(auto, unfolding(crate::specs::Private::Inner::holding))]
+fn holding(it: Instruction, items: u64, lent: ByteCount) -> bool
+    ensures { result ≡ holding lent.0 it items }
 {
-    let word = rec.word;
-    if !may_work(rec.p, word, o, bytes) {
-        return false;
-    }
-    if rec.items < 1 {
-        return false;
-    }
-    rec.items < count(word, o)
+    it.may_work(lent) && 1 <= items && items < it.count()
 }
 
 // Whether a record is marked and holds such a word, with the operands that the registers supply.
-pub fn half_done(rec: Record, bytes: u64, registers: &[u64]) -> bool
+#[tactic(auto, unfolding(crate::specs::Records::half_done, crate::specs::Private::Inner::holding, instructions::specs::Instruction::may_work))]
+pub fn half_done(rec: Record, lent: ByteCount, registers: &[u64]) -> bool
     requires { length registers.now ≡ 256 }
-    ensures { result ≡ half_done bytes registers.now rec }
+    ensures { result ≡ half_done lent.0 registers.now rec }
 {
-    if rec.mark != 1 {
-        return false;
-    }
-    let o = gather(rec.word, registers);
-    holding(rec, o, bytes)
+    rec.mark == 1 && holding(held(registers, rec), rec.items, lent)
 }
 
-// Whether a record with the mark is possible, with the operands of its word.
-pub fn goes_on(rec: Record, o: Operands, bytes: u64) -> bool
-    ensures { result ≡ goes_on bytes o rec }
+// Whether a record with the mark is possible, with what it holds.
+#[tactic(auto, unfolding(crate::specs::Private::Inner::goes_on))]
+pub fn goes_on(rec: Record, it: Instruction, lent: ByteCount) -> bool
+    ensures { result ≡ goes_on lent.0 it rec }
 {
-    if !place_right(rec.p) {
-        return false;
-    }
-    if !flags_right(rec.flags) {
-        return false;
-    }
-    holding(rec, o, bytes)
+    place_right(rec.p) && flags_right(rec.flags) && holding(it, rec.items, lent)
 }
 
 // Whether a record is possible with these registers: between two instructions, or half done.
-pub fn possible(rec: Record, bytes: u64, registers: &[u64]) -> bool
+#[tactic(auto, unfolding(crate::specs::Records::possible))]
+pub fn possible(rec: Record, lent: ByteCount, registers: &[u64]) -> bool
     requires { length registers.now ≡ 256 }
-    ensures { result ≡ possible bytes registers.now rec }
+    ensures { result ≡ possible lent.0 registers.now rec }
 {
-    if !place_right(rec.p) {
-        return false;
-    }
-    if !flags_right(rec.flags) {
-        return false;
-    }
-    if between_two(rec) {
-        return true;
-    }
-    half_done(rec, bytes, registers)
+    place_right(rec.p)
+        && flags_right(rec.flags)
+        && (between_two(rec) || half_done(rec, lent, registers))
 }

@@ -9,13 +9,11 @@ use crate::calls::{Outcome, run};
 use crate::records::Record;
 
 // The answer's number in the left 32 bits, the steps in the right 32.
+#[tactic(auto, using(crate::proofs::Numbered::number_fits), unfolding(crate::specs::Hosts::packed))]
 pub fn packed(out: Outcome) -> u64
     ensures { result ≡ packed out.answer out.steps }
 {
-    let answer = out.answer;
-    let steps = out.steps as u64;
-    let left = number(answer);
-    left * 0x1_0000_0000 + steps
+    number(out.answer) * 0x1_0000_0000 + out.steps as u64
 }
 
 // A run of at most `budget` steps over a record that is lent.

@@ -10,4 +10,4 @@ mod checks; // 2 and 3: the lengths, and whether a record is possible
 mod strides; // instructions of one step each, as many as follow one another
 mod performs; // steps of one instruction: from its start, or going on
 mod advances; // as many steps as the budget allows
-mod typed; // units for the plain numbers of the record
+mod fetches; // the instruction that comes next

@@ -2,7 +2,8 @@
 ghost use Rattle.std.specs.Prelude.{◌≡◌};
 ghost use Rattle.runs.specs.Records.{half, between};
 
-// Every bit pattern is a record; 3 refuses those that no run can make. A host in C lends these five numbers in this order.
+// Every bit pattern is a record; 3 refuses those that no run can make. A host in C lends these five numbers in this order, so that the mark stays a number
+// beside what it marks.
 #[repr(C)]
 #[derive(Clone, Copy)]
 pub struct Record {

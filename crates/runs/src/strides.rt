@@ -1,38 +1,35 @@
 // Instructions of one step each, as many as follow one another: the registers, loads and stores, and branches.
+#![tactic(auto, unfolding(crate::specs::Calls::lengths_right))]
+
 ghost use Rattle.std.specs.Prelude.{◌≡◌, true, length};
+ghost use Rattle.runs.specs.Records.{between};
+ghost use Rattle.runs.specs.Steps.{lent_at};
 ghost use Rattle.runs.specs.Calls.{lengths_right};
 ghost use Rattle.runs.specs.Private.Inner.{Strode};
 
-use crate::typed::{fetch, one_step};
-use instructions::instruction::act;
-use instructions::operands::gather;
+use crate::fetches::fetched;
+use crate::records::Record;
 
-// Nothing is half done at P; so many steps are left.
+// Steps that were taken, and the record after them.
 #[derive(Clone, Copy)]
-pub struct Pace {
-    pub p: u64,
-    pub flags: u64,
-    pub left: u32,
+pub struct Did {
+    pub rec: Record,
+    pub steps: u32,
 }
 
-// Steps until none is left, or the instruction at P is refused or goes by items.
-pub fn stride(start: Pace, memory: &mut [u8], registers: &mut [u64]) -> Pace
+// From between two instructions: steps until as many are taken, or the instruction at P is refused or goes by items.
+pub fn stride(memory: &mut [u8], registers: &mut [u64], p: u64, flags: u64, most: u32) -> Did
     requires { lengths_right (length memory.old) (length registers.old) ≡ true }
-    ensures { Strode memory.old registers.old start memory.new registers.new result }
+    ensures { Strode (lent_at memory.old registers.old (between p flags)) most (lent_at memory.new registers.new) result }
 {
-    let mut s = start;
-    while 0 < s.left {
-        let word = fetch(&memory[..], s.p);
-        let o = gather(word, &registers[..]);
-        if !one_step(&memory[..], s.p, word, o) {
-            return s;
+    let mut rec = Record::between(p, flags);
+    for steps in 0..most {
+        let it = fetched(memory, registers, rec);
+        if !it.one_step(memory) {
+            return Did { rec, steps };
         }
-        let d = act(memory, registers, s.p, word, o, s.flags);
-        s = Pace {
-            p: d.p,
-            flags: d.flags,
-            left: s.left - 1,
-        };
+        let acted = it.act(memory, registers, rec.flags);
+        rec = Record::between(acted.p.0, acted.flags);
     }
-    s
+    Did { rec, steps: most }
 }

@@ -1,59 +1,54 @@
 -- `runs::performs::begin` meets its contract.
-use mathlib.Core.Path.{◌≡◌, sym, ◌∙◌}
-use mathlib.Core.Bool.{true}
-use native.Mathlib.Omega.{arith}
-use Rattle.instructions.specs.Instruction.{by_items}
-use Rattle.runs.proofs.Choices.{ne_pos}
-use Rattle.runs.proofs.Performing.{Fetched, fetched_passes, fetched_past, items_left, performs_refused, performs_passed, performs_first}
+use mathlib.Core.Path.{sym, ◌∙◌, ap}
+use Prim.Native.Nat.{◌<◌}
+use Rattle.std.proofs.Math.Nat.{pos_of_ne-zero}
+use Rattle.std.proofs.lemmas.Result.{err_from_is_err_and}
+use Rattle.runs.proofs.Numbered.{said_as}
+use Rattle.runs.proofs.Performing.{fetched_past, items_left, performs_refused, proceeds_passed, proceeds_first}
 use Rattle.runs.proofs.Soundness.{lengths_of}
-use Rattle.runs.specs.Steps.{lent_at}
+use Rattle.runs.specs.Answers.{said_of}
+use Rattle.runs.specs.Steps.{lent_at, items_at}
 use Rattle.runs.proofs.performs.begin.Goals as goal
 
-pub gather-o-requires : goal.gather-o-requires
-gather-o-requires c =
-    (lengths_of _ _ c.requires.0.lengths).1
+pub returns-in_err-verdict : goal.returns-in_err-verdict
+returns-in_err-verdict c =
+    let s = lent_at c.args.memory.now c.args.registers.now c.args.rec in
+    let h = err_from_is_err_and c.from_residual.result c.from_residual.ensures.1 in
+    let judged = rw (c.fetched-it.ensures, c.in_err-verdict.was) at c.verdict.ensures in
+    rw h.1 (performs_refused s c.args.most h.0 c.requires.0.unmarked (ap said_of (sym judged) ∙ said_as _ h.0 h.2))
 
-pub returns-in-Ends : goal.returns-in-Ends
-returns-in-Ends c =
-    let f : Fetched (lent_at c.args.memory.now c.args.registers.now c.args.rec) c.fetch-word.result c.gather-o.result c.verdict.result =
-    record { unmarked = c.requires.0.unmarked; read = c.fetch-word.ensures; named = c.gather-o.ensures; verdict = c.verdict.ensures } in
-    performs_refused _ _ _ _ c.args.most _ f (sym c.said_by-said.ensures ∙ c.in-Ends.is)
-
-pub overflow_add-p : goal.overflow_add-p
-overflow_add-p c =
-    let f : Fetched (lent_at c.args.memory.now c.args.registers.now c.args.rec) c.fetch-word.result c.gather-o.result c.verdict.result =
-    record { unmarked = c.requires.0.unmarked; read = c.fetch-word.ensures; named = c.gather-o.ensures; verdict = c.verdict.ensures } in
-    let passes : c.verdict.result ≡ 0 = fetched_passes _ _ _ _ f (sym c.said_by-said.ensures ∙ c.in_default.is) in
-    let low = fetched_past _ _ _ _ c.requires.0.lengths f passes in
-    omega (arith, low, c.length_of.ensures)
+pub past-requires : goal.past-requires
+past-requires c =
+    let s = lent_at c.args.memory.now c.args.registers.now c.args.rec in
+    let passes = sym (rw (c.fetched-it.ensures, c.in_ok-verdict.was) at c.verdict.ensures) in
+    rw c.fetched-it.ensures (fetched_past s c.requires.0.lengths passes)
 
 pub returns-then-count-eq0 : goal.returns-then-count-eq0
 returns-then-count-eq0 c =
-    let f : Fetched (lent_at c.args.memory.now c.args.registers.now c.args.rec) c.fetch-word.result c.gather-o.result c.verdict.result =
-    record { unmarked = c.requires.0.unmarked; read = c.fetch-word.ensures; named = c.gather-o.ensures; verdict = c.verdict.ensures } in
-    let passes : c.verdict.result ≡ 0 = fetched_passes _ _ _ _ f (sym c.said_by-said.ensures ∙ c.in_default.is) in
-    let some : by_items c.fetch-word.result ≡ true = items_left (lent_at c.args.memory.now c.args.registers.now c.args.rec) _ _ _ f passes c.requires.1 in
-    performs_passed _ _ _ _ _ _ _ _ f passes some c.count.ensures c.if-count-eq0.true
-    c.requires.0.some c.length_of.ensures c.between.ensures
+    let s = lent_at c.args.memory.now c.args.registers.now c.args.rec in
+    let passes = sym (rw (c.fetched-it.ensures, c.in_ok-verdict.was) at c.verdict.ensures) in
+    let count = rw c.fetched-it.ensures at c.count.ensures in
+    rw (c.past.ensures, c.fetched-it.ensures)
+    (proceeds_passed s c.args.most c.requires.0.unmarked passes (items_left s passes c.requires.1) (sym count ∙ c.if-count-eq0.true) c.requires.0.some)
 
 pub burst-requires : goal.burst-requires
 burst-requires c =
-    let f : Fetched (lent_at c.args.memory.now c.args.registers.now c.args.rec) c.fetch-word.result c.gather-o.result c.verdict.result =
-    record { unmarked = c.requires.0.unmarked; read = c.fetch-word.ensures; named = c.gather-o.ensures; verdict = c.verdict.ensures } in
-    let passes : c.verdict.result ≡ 0 = fetched_passes _ _ _ _ f (sym c.said_by-said.ensures ∙ c.in_default.is) in
-    let some : by_items c.fetch-word.result ≡ true = items_left (lent_at c.args.memory.now c.args.registers.now c.args.rec) _ _ _ f passes c.requires.1 in
-    record {
+    let s = lent_at c.args.memory.now c.args.registers.now c.args.rec in
+    let passes = sym (rw (c.fetched-it.ensures, c.in_ok-verdict.was) at c.verdict.ensures) in
+    let count = rw c.fetched-it.ensures at c.count.ensures in
+    rw c.fetched-it.ensures
+    (record {
       lent = (lengths_of _ _ c.requires.0.lengths).0;
-      passes = sym c.verdict.ensures ∙ passes;
-      of_items = some;
-      more = ne_pos _ (λ e. c.if-count-eq0.false (c.count.ensures ∙ e));
-    }
+      passes = passes;
+      of_items = items_left s passes c.requires.1;
+      more = pos_of_ne-zero (λ e. c.if-count-eq0.false (count ∙ e));
+    })
 
 pub returns : goal.returns
 returns c =
-    let f : Fetched (lent_at c.args.memory.now c.args.registers.now c.args.rec) c.fetch-word.result c.gather-o.result c.verdict.result =
-    record { unmarked = c.requires.0.unmarked; read = c.fetch-word.ensures; named = c.gather-o.ensures; verdict = c.verdict.ensures } in
-    let passes : c.verdict.result ≡ 0 = fetched_passes _ _ _ _ f (sym c.said_by-said.ensures ∙ c.in_default.is) in
-    let some : by_items c.fetch-word.result ≡ true = items_left (lent_at c.args.memory.now c.args.registers.now c.args.rec) _ _ _ f passes c.requires.1 in
-    performs_first _ _ _ _ _ _ _ f passes some (ne_pos _ (λ e. c.if-count-eq0.false (c.count.ensures ∙ e)))
-    c.requires.0.some _ _ c.burst.ensures
+    let s = lent_at c.args.memory.now c.args.registers.now c.args.rec in
+    let passes = sym (rw (c.fetched-it.ensures, c.in_ok-verdict.was) at c.verdict.ensures) in
+    let count = rw c.fetched-it.ensures at c.count.ensures in
+    let some : 0 < items_at s = pos_of_ne-zero (λ e. c.if-count-eq0.false (count ∙ e)) in
+    proceeds_first _ _ c.args.rec c.args.most c.requires.0.unmarked passes (items_left s passes c.requires.1) some c.requires.0.some _ _
+    (rw c.fetched-it.ensures at c.burst.ensures)

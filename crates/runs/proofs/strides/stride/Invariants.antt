@@ -1,17 +1,9 @@
 -- `runs::strides::stride` meets its contract.
 use mathlib.Core.Path.{◌≡◌}
-use Prim.Native.Nat.{◌-◌, ◌≤◌}
-use lib.ListN.{length}
-use Rattle.runs.specs.Steps.{next, strides}
-use Rattle.runs.specs.Private.Inner.{stride_at}
+use Rattle.runs.specs.Steps.{lent_at, next, strides}
 use Rattle.runs.proofs.strides.stride.Given as goal
 
-abbrev pub invariant-loop-s : goal.invariant-loop-s
-invariant-loop-s l =
-    (length l.memory ≡ length l.initial.memory)
-    × ((length l.registers ≡ length l.initial.registers)
-    × ((l.s.left ≤ l.initial.s.left)
-    × (strides (l.initial.s.left - l.s.left) (stride_at l.initial.memory l.initial.registers l.initial.s) ≡ next (stride_at l.memory l.registers l.s))))
-
-abbrev pub decreases-loop-s : goal.decreases-loop-s
-decreases-loop-s l = l.s.left
+abbrev pub invariant-loop-steps : goal.invariant-loop-steps
+invariant-loop-steps l =
+    (l.rec.mark ≡ 0)
+    × (strides l.steps (lent_at l.initial.memory l.initial.registers l.initial.rec) ≡ next (lent_at l.memory l.registers l.rec))
