@@ -1,56 +1,56 @@
 // What one step changed, in words: comment lines of the deck that is written afterwards.
-ghost use Rattle.std.specs.Prelude.{◌≡◌, ◌≤◌, length};
+ghost use Rattle.std.specs.Prelude.{◌≤◌, length};
 
-use fields::bytes;
-use lines::{hex, text};
-use runs::records::Record;
-use std::io;
+use crate::jobs::Job;
+use fields::bytes::{self, WORD};
+use std::{fmt, io};
 
-// The value before and the value afterwards.
-fn from_to(out: &impl Print, before: u64, after: u64, digits: usize) -> io::Result<()> {
-    hex(out, b": ", before, digits)?;
-    hex(out, b" -> ", after, digits)?;
-    text(out, b"\n")
-}
-
-pub fn of_registers(out: &impl Print, before: &[u64; 256], after: &[u64; 256]) -> io::Result<()> {
-    let mut i = 0;
-    while i < 256 {
-        if before[i] != after[i] {
-            hex(out, b"# register ", i as u64, 2)?;
-            from_to(out, before[i], after[i], 16)?;
-        }
-        i += 1;
+// A line of what is other than before.
+fn change(
+    out: &impl Print,
+    what: impl fmt::Display + Drop,
+    old: u64,
+    new: u64,
+    digits: usize,
+) -> io::Result<()> {
+    if old != new {
+        println!(out; "# {what}: {old:0digits$x} -> {new:0digits$x}")?;
     }
     Ok(())
 }
 
-pub fn of_memory(out: &impl Print, before: &[u8], after: &[u8]) -> io::Result<()>
-    requires { (length before.now ≡ length after.now) × (length after.now ≤ 65536) }
+// Registers and words are a loop each: one iterator over both would be a type of its own, longer than the two.
+fn of_registers(out: &impl Print, before: &[u64; 256], after: &[u64; 256]) -> io::Result<()> {
+    for (k, (old, new)) in before.iter().zip(after).enumerate() {
+        change(out, format_args!("register {k:02x}"), *old, *new, 16)?;
+    }
+    Ok(())
+}
+
+fn of_memory(out: &impl Print, before: &[u8], after: &[u8]) -> io::Result<()>
+    requires { length after.now ≤ 65536 }
 {
-    let count = after.len() / 8;
-    let mut i = 0;
-    while i < count {
-        let old = bytes::word(before, i * 8);
-        let new = bytes::word(after, i * 8);
-        if old != new {
-            hex(out, b"# word ", 0x4000 + 64 * i as u64, 4)?;
-            from_to(out, old, new, 16)?;
-        }
-        i += 1;
+    for (k, (old, new)) in before
+        .chunks_exact(8)
+        .zip(after.chunks_exact(8))
+        .enumerate()
+    {
+        let address = 0x4000 + 0x40 * k;
+        change(
+            out,
+            format_args!("word {address:04x}"),
+            bytes::read::<WORD>(old, 0),
+            bytes::read::<WORD>(new, 0),
+            16,
+        )?;
     }
     Ok(())
 }
 
-// P and the flags.
-pub fn of_record(out: &impl Print, before: Record, after: Record) -> io::Result<()> {
-    if before.p != after.p {
-        text(out, b"# p")?;
-        from_to(out, before.p, after.p, 4)?;
-    }
-    if before.flags != after.flags {
-        text(out, b"# flags")?;
-        from_to(out, before.flags, after.flags, 6)?;
-    }
-    Ok(())
+// What a step changed: registers, words of memory, P and the flags.
+pub fn tell(out: &impl Print, before: &Job, after: &Job) -> io::Result<()> {
+    of_registers(out, &before.registers, &after.registers)?;
+    of_memory(out, before.memory(), after.memory())?;
+    change(out, "p", before.rec.p, after.rec.p, 4)?;
+    change(out, "flags", before.rec.flags, after.rec.flags, 6)
 }

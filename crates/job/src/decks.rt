@@ -5,409 +5,151 @@
 //     mark N   held WORD   items N   flags WORD
 //     register NUMBER VALUE
 //     word ADDRESS VALUE
-ghost use Rattle.std.specs.Prelude.{◌≡◌, ◌<◌, ◌≤◌, length, IfOk, OnErr};
-ghost use Rattle.job.specs.Places.{Fits, FitsKept, FitsReading};
+ghost use Rattle.std.specs.Prelude.{◌≡◌, ◌≤◌, IfOk};
 
-use crate::faults::{DeckFault, LineFault};
-use crate::scan::{Number, Run};
-use crate::{faults, scan};
-use fields::bytes;
-use runs::records::Record;
-use std::io;
+use crate::faults::{DeckFault, LineFault, NumberFault};
+use crate::scan;
+use crate::scan::Words;
 
-// What has been said has its place here: a byte for each name, then for each register, then for each word of memory.
-const SAID: usize = 8456;
+// How many bytes a memory has: at most the 65,536 that may be lent (§1.4).
+#[derive(Clone, Copy)]
+pub struct Length {
+    pub bytes: usize,
+    ghost fits: { bytes ≤ 65536 },
+}
 
-const REGISTERS: usize = 8;
+impl TryFrom<u64> for Length {
+    type Error = LineFault;
 
-const WORDS: usize = 264;
+    ghost try_from_gives = { λ bytes r. IfOk r (λ length. length.bytes ≡ bytes) };
 
-// The numbers of a deck, beside its memory and registers.
+    fn try_from(bytes: u64) -> Result<Length, LineFault> {
+        if 0x1_0000 < bytes {
+            return Err(LineFault::MemoryLong);
+        }
+        Ok(Length {
+            bytes: bytes as usize,
+        })
+    }
+}
+
+// What the lines of a deck have said; the words stand by their order in memory.
 #[derive(Clone, Copy)]
 pub struct Deck {
-    pub bytes: usize,
-    pub p: u64,
-    pub mark: u64,
-    pub held: u64,
-    pub items: u64,
-    pub flags: u64,
+    pub memory: Option<Length>,
+    pub p: Option<u64>,
+    pub mark: Option<u64>,
+    pub held: Option<u64>,
+    pub items: Option<u64>,
+    pub flags: Option<u64>,
+    pub registers: [Option<u64>; 256],
+    pub words: [Option<u64>; 8192],
 }
 
-#[derive(Clone, Copy)]
-pub enum Name {
-    Memory,
-    P,
-    Mark,
-    Held,
-    Items,
-    Flags,
-    Register,
-    Word,
-    Unknown,
+// The numbers behind a name, and nothing behind them.
+fn numbers<const N: usize>(words: &mut Words<'_>) -> Result<[u64; N], LineFault> {
+    let mut values = [0; N];
+    for value in values.iter_mut() {
+        let word = words.next().ok_or(NumberFault::Missing)?;
+        *value = scan::hex(word)?;
+    }
+    match words.next() {
+        None => Ok(values),
+        Some(_) => Err(LineFault::WordsLeft),
+    }
 }
 
-// What a line says. `place` is the register or address, or 0.
-#[derive(Clone, Copy)]
-pub struct Entry {
-    pub name: Name,
-    pub place: u64,
-    pub value: u64,
+fn number(words: &mut Words<'_>) -> Result<u64, LineFault> {
+    let [value] = numbers::<1>(words)?;
+    Ok(value)
 }
 
-#[derive(Clone, Copy)]
-pub enum Line {
-    Blank,
-    Says(Entry),
-    Wrong(LineFault),
-}
-
-#[derive(Clone, Copy)]
-pub enum Kept {
-    Deck(Deck),
-    Wrong(LineFault),
-}
-
-#[derive(Clone, Copy)]
-pub enum Reading {
-    Deck(Deck),
-    Wrong,
+// What may be said once is said.
+fn once(place: &mut Option<u64>, value: u64) -> Result<(), LineFault> {
+    match place.replace(value) {
+        None => Ok(()),
+        Some(_) => Err(LineFault::SaidTwice),
+    }
 }
 
 impl Deck {
-    pub fn empty() -> Deck
-        ensures { Fits result }
-    {
+    fn empty() -> Deck {
         Deck {
-            bytes: 0,
-            p: 0,
-            mark: 0,
-            held: 0,
-            items: 0,
-            flags: 0,
+            memory: None,
+            p: None,
+            mark: None,
+            held: None,
+            items: None,
+            flags: None,
+            registers: [None; 256],
+            words: [None; 8192],
         }
     }
 
-    pub fn of(bytes: usize, rec: Record) -> Deck {
-        Deck {
-            bytes,
-            p: rec.p,
-            mark: rec.mark,
-            held: rec.word,
-            items: rec.items,
-            flags: rec.flags,
+    fn memory(&mut self, bytes: u64) -> Result<(), LineFault> {
+        if self.memory.is_some() {
+            return Err(LineFault::SaidTwice);
+        }
+        self.memory = Some(Length::try_from(bytes)?);
+        Ok(())
+    }
+
+    fn register(&mut self, [number, value]: [u64; 2]) -> Result<(), LineFault> {
+        if 255 < number {
+            return Err(LineFault::NoSuchRegister);
+        }
+        once(&mut self.registers[number as usize], value)
+    }
+
+    fn word(&mut self, [address, value]: [u64; 2]) -> Result<(), LineFault> {
+        let Some(length) = self.memory else {
+            return Err(LineFault::MemoryFirst);
+        };
+        if address % 0x40 != 0 {
+            return Err(LineFault::AddressOdd);
+        }
+        if address < 0x4000 {
+            return Err(LineFault::AddressLow);
+        }
+        let word = (address - 0x4000) / 0x40;
+        if (length.bytes as u64) / 8 <= word {
+            return Err(LineFault::AddressHigh);
+        }
+        once(&mut self.words[word as usize], value)
+    }
+
+    // A line more: its name and numbers, or nothing.
+    fn line(&mut self, line: &[u8]) -> Result<(), LineFault> {
+        let mut words = Words::of(line);
+        let Some(name) = words.next() else {
+            return Ok(());
+        };
+        match name {
+            b"memory" => self.memory(number(&mut words)?),
+            b"p" => once(&mut self.p, number(&mut words)?),
+            b"mark" => once(&mut self.mark, number(&mut words)?),
+            b"held" => once(&mut self.held, number(&mut words)?),
+            b"items" => once(&mut self.items, number(&mut words)?),
+            b"flags" => once(&mut self.flags, number(&mut words)?),
+            b"register" => self.register(numbers(&mut words)?),
+            b"word" => self.word(numbers(&mut words)?),
+            _ => Err(LineFault::NoSuchName),
         }
     }
 
-    pub fn record(self) -> Record {
-        Record {
-            p: self.p,
-            mark: self.mark,
-            word: self.held,
-            items: self.items,
-            flags: self.flags,
-        }
-    }
-}
-
-fn name_of(word: &[u8]) -> Name {
-    if word == b"register".as_slice() {
-        return Name::Register;
-    }
-    if word == b"word".as_slice() {
-        return Name::Word;
-    }
-    if word == b"memory".as_slice() {
-        return Name::Memory;
-    }
-    if word == b"p".as_slice() {
-        return Name::P;
-    }
-    if word == b"mark".as_slice() {
-        return Name::Mark;
-    }
-    if word == b"held".as_slice() {
-        return Name::Held;
-    }
-    if word == b"items".as_slice() {
-        return Name::Items;
-    }
-    if word == b"flags".as_slice() {
-        return Name::Flags;
-    }
-    Name::Unknown
-}
-
-// Why a word is no number.
-fn fault_of(number: Number) -> LineFault {
-    match number {
-        Number::Missing => LineFault::NumberMissing,
-        Number::Large => LineFault::NumberLarge,
-        _ => LineFault::NumberOdd,
-    }
-}
-
-// A name with one number.
-fn one(name: Name, value: Number, left: Number) -> Line {
-    let Number::Is(v) = value else {
-        return Line::Wrong(fault_of(value));
-    };
-    let Number::Missing = left else {
-        return Line::Wrong(LineFault::WordsLeft);
-    };
-    Line::Says(Entry {
-        name,
-        place: 0,
-        value: v,
-    })
-}
-
-// A name with two numbers.
-fn two(name: Name, place: Number, value: Number, left: Number) -> Line {
-    let Number::Is(k) = place else {
-        return Line::Wrong(fault_of(place));
-    };
-    let Number::Is(v) = value else {
-        return Line::Wrong(fault_of(value));
-    };
-    let Number::Missing = left else {
-        return Line::Wrong(LineFault::WordsLeft);
-    };
-    Line::Says(Entry {
-        name,
-        place: k,
-        value: v,
-    })
-}
-
-// The number that the next word is, and where the word ends.
-#[derive(Clone, Copy)]
-struct Scanned {
-    number: Number,
-    end: usize,
-}
-
-fn scanned_at(text: &[u8], from: usize) -> Scanned
-    requires { from ≤ length text.now }
-    ensures { result.end ≤ length text.now }
-{
-    let word = scan::next_word(text, from);
-    let start = word.from;
-    let end = word.to;
-    Scanned {
-        number: scan::hex(&text[start..end]),
-        end,
-    }
-}
-
-// What the line that begins at `from` says.
-fn said_by(text: &[u8], from: usize) -> Line
-    requires { from ≤ length text.now }
-{
-    let word = scan::next_word(text, from);
-    let start = word.from;
-    let end = word.to;
-    if start == end {
-        return Line::Blank;
-    }
-    let name = name_of(&text[start..end]);
-    let first = scanned_at(text, end);
-    let second = scanned_at(text, first.end);
-    let third = scanned_at(text, second.end);
-    let a = first.number;
-    let b = second.number;
-    let c = third.number;
-    match name {
-        Name::Unknown => Line::Wrong(LineFault::NoSuchName),
-        Name::Register => two(name, a, b, c),
-        Name::Word => two(name, a, b, c),
-        _ => one(name, a, b),
-    }
-}
-
-// Has this been said before? It has been now.
-fn again(said: &mut [u8; SAID], k: usize) -> bool
-    requires { k < 8456 }
-{
-    let before = said[k];
-    said[k] = 1;
-    before != 0
-}
-
-fn keep_register(
-    d: Deck,
-    number: u64,
-    value: u64,
-    registers: &mut [u64; 256],
-    said: &mut [u8; SAID],
-) -> Kept
-    requires { Fits d }
-    ensures { FitsKept result }
-{
-    if 255 < number {
-        return Kept::Wrong(LineFault::NoSuchRegister);
-    }
-    let k = number as usize;
-    if again(said, REGISTERS + k) {
-        return Kept::Wrong(LineFault::SaidTwice);
-    }
-    registers[k] = value;
-    Kept::Deck(d)
-}
-
-fn keep_word(d: Deck, address: u64, value: u64, memory: &mut [u8], said: &mut [u8; SAID]) -> Kept
-    requires { Fits d × (65536 ≡ length memory.old) }
-    ensures { FitsKept result }
-{
-    if said[0] == 0 {
-        return Kept::Wrong(LineFault::MemoryFirst);
-    }
-    if address % 0x40 != 0 {
-        return Kept::Wrong(LineFault::AddressOdd);
-    }
-    if address < 0x4000 {
-        return Kept::Wrong(LineFault::AddressLow);
-    }
-    let word = (address - 0x4000) / 0x40;
-    let words = (d.bytes as u64) / 8;
-    if words <= word {
-        return Kept::Wrong(LineFault::AddressHigh);
-    }
-    let k = word as usize;
-    if again(said, WORDS + k) {
-        return Kept::Wrong(LineFault::SaidTwice);
-    }
-    bytes::put_word(memory, k * 8, value);
-    Kept::Deck(d)
-}
-
-fn keep_length(d: Deck, value: u64) -> Kept
-    requires { Fits d }
-    ensures { FitsKept result }
-{
-    if 0x1_0000 < value {
-        return Kept::Wrong(LineFault::MemoryLong);
-    }
-    let mut n = d;
-    n.bytes = value as usize;
-    Kept::Deck(n)
-}
-
-// One of the record's numbers.
-fn with_number(d: Deck, name: Name, value: u64) -> Deck
-    requires { Fits d }
-    ensures { Fits result }
-{
-    let mut n = d;
-    match name {
-        Name::P => n.p = value,
-        Name::Mark => n.mark = value,
-        Name::Held => n.held = value,
-        Name::Items => n.items = value,
-        _ => n.flags = value,
-    }
-    n
-}
-
-// The place of a name that is said once in a deck.
-fn slot(name: Name) -> usize
-    ensures { result < 8 }
-{
-    match name {
-        Name::Memory => 0,
-        Name::P => 1,
-        Name::Mark => 2,
-        Name::Held => 3,
-        Name::Items => 4,
-        _ => 5,
-    }
-}
-
-fn keep_number(d: Deck, name: Name, value: u64, said: &mut [u8; SAID]) -> Kept
-    requires { Fits d }
-    ensures { FitsKept result }
-{
-    if again(said, slot(name)) {
-        return Kept::Wrong(LineFault::SaidTwice);
-    }
-    match name {
-        Name::Memory => keep_length(d, value),
-        _ => Kept::Deck(with_number(d, name, value)),
-    }
-}
-
-fn keep(
-    d: Deck,
-    entry: Line,
-    memory: &mut [u8],
-    registers: &mut [u64; 256],
-    said: &mut [u8; SAID],
-) -> Kept
-    requires { Fits d × (65536 ≡ length memory.old) }
-    ensures { FitsKept result }
-{
-    match entry {
-        Line::Blank => Kept::Deck(d),
-        Line::Wrong(fault) => Kept::Wrong(fault),
-        Line::Says(e) => {
-            let name = e.name;
-            match name {
-                Name::Register => keep_register(d, e.place, e.value, registers, said),
-                Name::Word => keep_word(d, e.place, e.value, memory, said),
-                _ => keep_number(d, name, e.value, said),
+    // What the lines of a text say, up to the first that is wrong.
+    pub fn read(text: &[u8]) -> Result<Deck, DeckFault<'_>> {
+        let mut deck = Deck::empty();
+        for (k, line) in text.split(|b| *b == b'\n').enumerate() {
+            if let Err(fault) = deck.line(line) {
+                let number = k + 1;
+                return Err(DeckFault::Line {
+                    number,
+                    fault,
+                    line,
+                });
             }
         }
-    }
-}
-
-// A deck has to say how long the memory is, and where the job stands. An error is one of writing what is wrong.
-fn whole(err: &impl Print, d: Deck, said: &[u8; SAID]) -> io::Result<Reading>
-    requires { Fits d }
-    ensures { IfOk result FitsReading }
-{
-    if said[0] == 0 {
-        faults::of_deck(err, DeckFault::NoMemory)?;
-        return Ok(Reading::Wrong);
-    }
-    if said[1] == 0 {
-        faults::of_deck(err, DeckFault::NoP)?;
-        return Ok(Reading::Wrong);
-    }
-    Ok(Reading::Deck(d))
-}
-
-// The deck of a text, its memory and registers put where they are lent; or what is wrong has been said. An error is one of writing that.
-pub fn read(
-    err: &impl Print,
-    text: &[u8],
-    memory: &mut [u8],
-    registers: &mut [u64; 256],
-) -> io::Result<Reading>
-    requires { 65536 ≡ length memory.old }
-    ensures ok { IfOk result FitsReading }
-    ensures err { OnErr result (length memory.new ≡ length memory.old) }
-{
-    let mut said = [0u8; SAID];
-    let mut d = Deck::empty();
-    let mut at = 0;
-    let mut count = 1;
-    while at < text.len() {
-        let end = scan::past(Run::Line, text, at);
-        let kept = keep(d, said_by(text, at), memory, registers, &mut said);
-        let Kept::Deck(next) = kept else {
-            tell(err, kept, count, &text[at..end])?;
-            return Ok(Reading::Wrong);
-        };
-        d = next;
-        at = end + 1;
-        count += 1;
-    }
-    whole(err, d, &said)
-}
-
-// What is wrong with a line.
-fn tell(err: &impl Print, kept: Kept, count: u64, text: &[u8]) -> io::Result<()> {
-    match kept {
-        Kept::Deck(_) => Ok(()),
-        Kept::Wrong(fault) => faults::of_line(err, fault, count, text),
+        Ok(deck)
     }
 }

@@ -1,22 +1,26 @@
 // What can be wrong with a command or a deck, in words on standard error. Nothing is run then.
-use lines::decimal;
-use std::io;
+use std::error::Error;
+use std::{fmt, io};
 
-#[derive(Clone, Copy)]
+// Why a word is no number.
+#[derive(Clone, Copy, Debug)]
+pub enum NumberFault {
+    Missing, // no digit
+    Odd, // a byte that is no digit
+    Large, // more than 64 bits, or more than 60 in decimal
+}
+
+#[derive(Clone, Copy, Debug)]
 pub enum CommandFault {
     NoSuch,
-    NumberMissing,
-    NumberOdd,
-    NumberLarge,
+    Number(NumberFault),
     WordsLeft,
 }
 
-#[derive(Clone, Copy)]
+#[derive(Clone, Copy, Debug)]
 pub enum LineFault {
     NoSuchName,
-    NumberMissing,
-    NumberOdd,
-    NumberLarge,
+    Number(NumberFault),
     WordsLeft,
     SaidTwice,
     NoSuchRegister,
@@ -27,79 +31,98 @@ pub enum LineFault {
     AddressHigh,
 }
 
-#[derive(Clone, Copy)]
-pub enum DeckFault {
+// What is wrong with a deck, or with one line of it.
+#[derive(Clone, Copy, Debug)]
+pub enum DeckFault<'a> {
     Long,
     NoMemory,
     NoP,
+    Line {
+        number: usize,
+        fault: LineFault,
+        line: &'a [u8],
+    },
 }
 
-fn say(err: &impl Print, words: &[u8]) -> io::Result<()> {
-    err.write_all(words)
-}
-
-pub fn of_command(err: &impl Print, fault: CommandFault) -> io::Result<()> {
-    match fault {
-        CommandFault::NoSuch => say(
-            err,
-            b"no such command; there are: run BUDGET, step, list, list COUNT",
-        )?,
-        CommandFault::NumberMissing => say(err, b"run takes a number, the budget")?,
-        CommandFault::NumberOdd => say(err, b"the budget or count is a decimal number")?,
-        CommandFault::NumberLarge => say(
-            err,
-            b"the budget or count has 32 bits: at most 4294967295",
-        )?,
-        CommandFault::WordsLeft => say(err, b"a word too many")?,
-    }
-    say(err, b"\n")
-}
-
-pub fn of_deck(err: &impl Print, fault: DeckFault) -> io::Result<()> {
-    say(err, b"bad deck: ")?;
-    match fault {
-        DeckFault::Long => say(err, b"it has more than 262143 bytes")?,
-        DeckFault::NoMemory => say(err, b"no line says 'memory' and the memory's length")?,
-        DeckFault::NoP => say(err, b"no line says 'p' and where the job stands")?,
-    }
-    say(err, b"\n")
-}
-
-fn words_of(err: &impl Print, fault: LineFault) -> io::Result<()> {
-    match fault {
-        LineFault::NoSuchName => say(
-            err,
-            b"the first word is none of memory, p, mark, held, items, flags, register, word",
-        ),
-        LineFault::NumberMissing => say(err, b"a number is missing"),
-        LineFault::NumberOdd => say(
-            err,
-            b"a number is not in hex: digits 0 to 9 and A to F, with _ between them",
-        ),
-        LineFault::NumberLarge => say(err, b"a number has more than 64 bits"),
-        LineFault::WordsLeft => say(
-            err,
-            b"something stands behind the last number; a comment begins with #",
-        ),
-        LineFault::SaidTwice => say(err, b"an earlier line has said this"),
-        LineFault::NoSuchRegister => say(err, b"registers are 0 to FF"),
-        LineFault::MemoryLong => say(err, b"a memory has at most 10000 bytes (hex)"),
-        LineFault::MemoryFirst => say(err, b"the line 'memory' has to come before the first word"),
-        LineFault::AddressOdd => say(err, b"a word's address is a multiple of 40 (hex, in bits)"),
-        LineFault::AddressLow => say(err, b"memory begins at address 4000"),
-        LineFault::AddressHigh => say(
-            err,
-            b"the word does not lie in the memory, whose length the line 'memory' says",
-        ),
+// Either has a `From` of its own, as `?` asks.
+impl From<NumberFault> for CommandFault {
+    fn from(fault: NumberFault) -> CommandFault {
+        CommandFault::Number(fault)
     }
 }
 
-// The line's number, what is wrong, and the line.
-pub fn of_line(err: &impl Print, fault: LineFault, count: u64, text: &[u8]) -> io::Result<()> {
-    decimal(err, b"bad deck, line ", count)?;
-    say(err, b": ")?;
-    words_of(err, fault)?;
-    say(err, b"\n    ")?;
-    say(err, text)?;
-    say(err, b"\n")
+impl From<NumberFault> for LineFault {
+    fn from(fault: NumberFault) -> LineFault {
+        LineFault::Number(fault)
+    }
+}
+
+impl fmt::Display for CommandFault {
+    fn fmt<W: fmt::Write>(&self, f: &mut fmt::Formatter<W>) -> fmt::Result {
+        f.write_str(match self {
+            CommandFault::NoSuch =>
+                "no such command; there are: run BUDGET, step, list, list COUNT",
+            CommandFault::Number(NumberFault::Missing) => "run takes a number, the budget",
+            CommandFault::Number(NumberFault::Odd) => "the budget or count is a decimal number",
+            CommandFault::Number(NumberFault::Large) =>
+                "the budget or count has 32 bits: at most 4294967295",
+            CommandFault::WordsLeft => "a word too many",
+        })
+    }
+}
+
+impl fmt::Display for LineFault {
+    fn fmt<W: fmt::Write>(&self, f: &mut fmt::Formatter<W>) -> fmt::Result {
+        f.write_str(match self {
+            LineFault::NoSuchName =>
+                "the first word is none of memory, p, mark, held, items, flags, register, word",
+            LineFault::Number(NumberFault::Missing) => "a number is missing",
+            LineFault::Number(NumberFault::Odd) =>
+                "a number is not in hex: digits 0 to 9 and A to F, with _ between them",
+            LineFault::Number(NumberFault::Large) => "a number has more than 64 bits",
+            LineFault::WordsLeft =>
+                "something stands behind the last number; a comment begins with #",
+            LineFault::SaidTwice => "an earlier line has said this",
+            LineFault::NoSuchRegister => "registers are 0 to FF",
+            LineFault::MemoryLong => "a memory has at most 10000 bytes (hex)",
+            LineFault::MemoryFirst => "the line 'memory' has to come before the first word",
+            LineFault::AddressOdd => "a word's address is a multiple of 40 (hex, in bits)",
+            LineFault::AddressLow => "memory begins at address 4000",
+            LineFault::AddressHigh =>
+                "the word does not lie in the memory, whose length the line 'memory' says",
+        })
+    }
+}
+
+impl fmt::Display for DeckFault<'_> {
+    fn fmt<W: fmt::Write>(&self, f: &mut fmt::Formatter<W>) -> fmt::Result {
+        match self {
+            DeckFault::Long => write!(f, "bad deck: it has more than 262143 bytes"),
+            DeckFault::NoMemory => write!(
+                f,
+                "bad deck: no line says 'memory' and the memory's length"
+            ),
+            DeckFault::NoP => write!(f, "bad deck: no line says 'p' and where the job stands"),
+            DeckFault::Line { number, fault, .. } => write!(f, "bad deck, line {number}: {fault}"),
+        }
+    }
+}
+
+impl Error for CommandFault {}
+
+impl Error for LineFault {}
+
+impl Error for DeckFault<'_> {}
+
+impl DeckFault<'_> {
+    // What is wrong, and the line as it stands: its bytes need not be text.
+    pub fn tell(self, err: &impl Print) -> io::Result<()> {
+        err.println(self)?;
+        if let DeckFault::Line { line, .. } = self {
+            err.write_all(b"    ")?;
+            err.write_all(line)?;
+            err.write_all(b"\n")?;
+        }
+        Ok(())
+    }
 }

@@ -1,113 +1,68 @@
 // Instructions in words, judged with the registers as they stand.
-ghost use Rattle.std.specs.Prelude.{◌≤◌};
-
-use crate::{answers, names};
+use crate::answers::InWords;
+use crate::jobs::Job;
+use crate::names;
 use fields::units::{BitAddress, ByteCount};
-use instructions::{fetch, instruction, operands, verdict};
-use lines::{decimal, hex, text};
-use runs::answers::{Said, said_by};
-use std::io;
+use instructions::fetch::{fetch, is_long, length_of};
+use instructions::instruction::{Instruction, by_items};
+use instructions::operands::code_in;
+use instructions::verdict::Stop;
+use instructions::words::Refusal;
+use runs::answers::Answer;
+use std::{fmt, io};
 
-// One designator, where it is not 00.
-fn designator(out: &impl Print, name: &[u8], value: u64) -> io::Result<()> {
-    if value != 0 {
-        hex(out, name, value, 2)?;
-    }
-    Ok(())
-}
+// A word of an instruction: the name of its code, and its designators where they are not 00.
+#[derive(Clone, Copy)]
+pub struct Spelled(pub u64);
 
-// The byte of a word that has s bits to its right.
-fn part(word: u64, s: u64) -> u64
-    requires { s ≤ 63 }
-{
-    (word >> s) % 256
-}
-
-// The name of a word's code, and its designators.
-pub fn words_of(out: &impl Print, word: u64) -> io::Result<()> {
-    names::of_code(out, operands::code_in(word))?;
-    if fetch::is_long(word) {
-        designator(out, b", G ", part(word, 48))?;
-        designator(out, b", X ", part(word, 40))?;
-        designator(out, b", A ", part(word, 32))?;
-        designator(out, b", Y ", part(word, 24))?;
-        designator(out, b", B ", part(word, 16))?;
-        designator(out, b", Z ", part(word, 8))?;
-        designator(out, b", C ", part(word, 0))
-    } else {
-        designator(out, b", R ", part(word, 48))?;
-        designator(out, b", S ", part(word, 40))?;
-        designator(out, b", T ", part(word, 32))
+impl fmt::Display for Spelled {
+    fn fmt<W: fmt::Write>(&self, f: &mut fmt::Formatter<W>) -> fmt::Result {
+        let word = self.0;
+        write!(f, "{}", names::of_code(code_in(word)))?;
+        let designators = if is_long(word) { "GXAYBZC" } else { "RST" };
+        let bytes = word.to_be_bytes();
+        for (name, value) in designators.chars().zip(&bytes[1..]) {
+            if *value != 0 {
+                write!(f, ", {name} {value:02x}")?;
+            }
+        }
+        Ok(())
     }
 }
 
 // A word in hex: 32 bits or 64.
 fn digits_of(out: &impl Print, word: u64) -> io::Result<()> {
-    if fetch::is_long(word) {
-        hex(out, b"  ", word, 16)
+    if is_long(word) {
+        print!(out; "  {word:016x}")
     } else {
-        hex(out, b"  ", word >> 32, 8)?;
-        text(out, b"        ")
+        print!(out; "  {:08x}        ", word >> 32)
     }
 }
 
-// The answer that its checks give, or how many items it has.
-fn outlook(out: &impl Print, word: u64, refused: u64, items: u64) -> io::Result<()> {
-    let said = said_by(refused);
-    if let Said::Ends(answer) = said {
-        text(out, b"; ")?;
-        answers::tell(out, answer)?;
-        return Ok(());
+// The instruction on a line of its own, with the answer that its checks give, or how many items it has.
+fn line(out: &impl Print, it: Instruction, verdict: Result<(), Stop>) -> io::Result<()> {
+    print!(out; "{:04x}", it.p.0)?;
+    digits_of(out, it.word)?;
+    print!(out; "  {}", Spelled(it.word))?;
+    match verdict {
+        Err(stop) => println!(out; "; {}", InWords(Answer::from(stop))),
+        Ok(()) if by_items(it.word) => println!(out; "; items {}", it.count()),
+        Ok(()) => println!(out),
     }
-    if instruction::by_items(word) {
-        decimal(out, b"; items ", items)?;
-    }
-    Ok(())
 }
 
-// The instruction at an address on a line of its own; the number that refuses it, or 0.
-fn line(
-    out: &impl Print,
-    p: u64,
-    word: u64,
-    registers: &[u64; 256],
-    bytes: usize,
-) -> io::Result<u64> {
-    let o = operands::gather(word, registers);
-    let refused = verdict::verdict(BitAddress(p), word, o, ByteCount(bytes as u64));
-    hex(out, b"", p, 4)?;
-    digits_of(out, word)?;
-    text(out, b"  ")?;
-    words_of(out, word)?;
-    outlook(out, word, refused, instruction::count(word, o))?;
-    text(out, b"\n")?;
-    Ok(refused)
-}
-
-// 4 and 5: no word, or one of which nobody knows how long it is.
-fn ends_there(refused: u64) -> bool {
-    refused == 4 || refused == 5
-}
-
-// The instructions from P on, as many as are asked for, up to the first place where none stands.
-pub fn from(
-    out: &impl Print,
-    p: u64,
-    memory: &[u8],
-    registers: &[u64; 256],
-    most: u32,
-) -> io::Result<()> {
-    let mut at = p;
-    let mut left = most;
-    while 0 < left {
-        let word = fetch::fetch(memory, BitAddress(at));
-        let refused = line(out, at, word, registers, memory.len())?;
-        if ends_there(refused) {
+// The instructions from P on, as many as are asked for, up to the first place where none stands: no word, or one of which nobody knows how long it is.
+pub fn from_p(out: &impl Print, job: &Job, most: u32) -> io::Result<()> {
+    let mut at = job.rec.p;
+    for _ in 0..most {
+        let p = BitAddress(at);
+        let it = job.instruction(p, fetch(job.memory(), p));
+        let verdict = it.verdict(ByteCount(job.length.bytes as u64));
+        line(out, it, verdict)?;
+        if let Err(Stop::Refused(Refusal::NotThere | Refusal::NotListed)) = verdict {
             return Ok(());
         }
-        let length = fetch::length_of(word);
-        at = at.wrapping_add(length.0);
-        left -= 1;
+        at = at.wrapping_add(length_of(it.word).0);
     }
     Ok(())
 }

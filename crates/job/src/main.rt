@@ -5,24 +5,33 @@ mod command; // the words of the command line
 mod scan; // the words of a line, and the numbers that they are
 mod faults; // what can be wrong with a deck or a command, in words
 mod decks; // a deck, read
-mod writing; // a deck, written
+mod jobs; // a job: its memory, registers and record
+mod writing; // a job's deck, written
 mod answers; // each answer of a call, in words
 mod names; // each function code, in words
 mod listing; // the instructions from P on
 mod changes; // what one step changed, in words
-mod jobs; // run, step and list
+mod tasks; // run, step and list
 
 use command::Command;
+use jobs::{Job, ROOM};
+use lines::read_full;
 use std::io;
 
+// The deck of standard input, and what the command asks of its job; or what is wrong with the deck.
+// The text has a fixed place, since there is no heap.
+fn with_deck(rt: &HostRuntime, command: Command) -> io::Result<()> {
+    let mut place = [0; ROOM];
+    let count = read_full(&mut rt.stdin(), &mut place)?;
+    match Job::read(&place[..count]) {
+        Ok(job) => tasks::follow(rt, command, job),
+        Err(fault) => fault.tell(&rt.stderr()),
+    }
+}
+
 fn main(rt: HostRuntime) -> io::Result<()> {
-    let mut stdin = rt.stdin();
-    let err = rt.stderr();
-    let command = command::given(&rt);
-    match command {
-        Command::Run(budget) => jobs::run(&mut stdin, &rt, &err, budget),
-        Command::Step => jobs::step(&mut stdin, &rt, &err),
-        Command::List(most) => jobs::list(&mut stdin, &rt, &err, most),
-        Command::Wrong(fault) => faults::of_command(&err, fault),
+    match command::given(&rt) {
+        Ok(command) => with_deck(&rt, command),
+        Err(fault) => rt.stderr().println(fault),
     }
 }

@@ -1,60 +1,50 @@
 // Each function code in words.
-use lines::text;
-use std::io;
 
-fn of_registers(out: &impl Print, code: u64) -> io::Result<()> {
-    match code {
-        0x12 => text(out, b"load byte"),
-        0x13 => text(out, b"store byte"),
-        0x2C => text(out, b"exclusive or"),
-        0x2D => text(out, b"and"),
-        0x2E => text(out, b"inclusive or"),
-        0x63 => text(out, b"add low 48"),
-        0x67 => text(out, b"subtract low 48"),
-        0x70 => text(out, b"truncate"),
-        0x71 => text(out, b"floor"),
-        0x72 => text(out, b"ceiling"),
-        0x76 => text(out, b"contract"),
-        0x77 => text(out, b"rounded contract"),
-        0x78 => text(out, b"transmit"),
-        0x7A => text(out, b"exponent"),
-        0x7B => text(out, b"pack"),
-        0x7C => text(out, b"left 16"),
-        0x7E => text(out, b"load word"),
-        0x7F => text(out, b"store word"),
-        0x09 => text(out, b"exit"),
-        _ => text(out, b"not listed"),
-    }
-}
-
-fn of_vectors(out: &impl Print, code: u64) -> io::Result<()> {
-    match code {
-        0x83 => text(out, b"vector add low 48"),
-        0x87 => text(out, b"vector subtract low 48"),
-        0x8A => text(out, b"vector shift"),
-        0x90 => text(out, b"vector truncate"),
-        0x91 => text(out, b"vector floor"),
-        0x92 => text(out, b"vector ceiling"),
-        0x96 => text(out, b"vector contract"),
-        0x97 => text(out, b"vector rounded contract"),
-        0x98 => text(out, b"vector transmit"),
-        _ => of_registers(out, code),
-    }
-}
+const NAMES: [(u8, &str); 38] = [
+    (0x09, "exit"),
+    (0x12, "load byte"),
+    (0x13, "store byte"),
+    (0x14, "bit compress"),
+    (0x15, "bit merge"),
+    (0x16, "bit mask"),
+    (0x2C, "exclusive or"),
+    (0x2D, "and"),
+    (0x2E, "inclusive or"),
+    (0x63, "add low 48"),
+    (0x67, "subtract low 48"),
+    (0x70, "truncate"),
+    (0x71, "floor"),
+    (0x72, "ceiling"),
+    (0x76, "contract"),
+    (0x77, "rounded contract"),
+    (0x78, "transmit"),
+    (0x7A, "exponent"),
+    (0x7B, "pack"),
+    (0x7C, "left 16"),
+    (0x7E, "load word"),
+    (0x7F, "store word"),
+    (0x83, "vector add low 48"),
+    (0x87, "vector subtract low 48"),
+    (0x8A, "vector shift"),
+    (0x90, "vector truncate"),
+    (0x91, "vector floor"),
+    (0x92, "vector ceiling"),
+    (0x96, "vector contract"),
+    (0x97, "vector rounded contract"),
+    (0x98, "vector transmit"),
+    (0xB0, "add, branch if equal"),
+    (0xB1, "add, branch if not equal"),
+    (0xB2, "add, branch if greater or equal"),
+    (0xB3, "add, branch if less"),
+    (0xB4, "add, branch if less or equal"),
+    (0xB5, "add, branch if greater"),
+    (0xF8, "move bytes left"),
+];
 
 // The name of a code.
-pub fn of_code(out: &impl Print, code: u64) -> io::Result<()> {
-    match code {
-        0x14 => text(out, b"bit compress"),
-        0x15 => text(out, b"bit merge"),
-        0x16 => text(out, b"bit mask"),
-        0xB0 => text(out, b"add, branch if equal"),
-        0xB1 => text(out, b"add, branch if not equal"),
-        0xB2 => text(out, b"add, branch if greater or equal"),
-        0xB3 => text(out, b"add, branch if less"),
-        0xB4 => text(out, b"add, branch if less or equal"),
-        0xB5 => text(out, b"add, branch if greater"),
-        0xF8 => text(out, b"move bytes left"),
-        _ => of_vectors(out, code),
-    }
+pub fn of_code(code: u8) -> &'static str {
+    NAMES
+        .iter()
+        .find(|row| row.0 == code)
+        .map_or("not listed", |row| row.1)
 }

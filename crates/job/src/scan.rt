@@ -1,120 +1,74 @@
 // The words of a line, and the numbers that they are.
-ghost use Rattle.std.specs.Prelude.{◌≤◌, length};
-ghost use Rattle.job.specs.Places.{Within};
+ghost use Rattle.std.specs.Prelude.{◌≡◌, ◌≤◌, ℕ, List, ◌++◌, length, IfSome};
+ghost use Rattle.std.specs.Iterator.{at_most};
+
+use crate::faults::NumberFault;
 
 // Another digit still fits behind it.
 const MOST: u64 = 0x0FFF_FFFF_FFFF_FFFF;
 
-// A word of a line: the bytes of the text from `from` up to `to`. The two are the same where none is left.
-#[derive(Clone, Copy)]
-pub struct Word {
-    pub from: usize,
-    pub to: usize,
+// What is left of a line, word by word; no word is empty.
+#[derive(Drop)]
+pub struct Words<'a>(&'a [u8]);
+
+impl<'a> Words<'a> {
+    // The words of a line: a comment begins with #.
+    pub fn of(line: &'a [u8]) -> Words<'a> {
+        let end = line.iter().position(|b| *b == b'#').unwrap_or(line.len());
+        Words(&line[..end])
+    }
 }
 
-#[derive(Clone, Copy)]
-pub enum Number {
-    Is(u64),
-    Missing, // no digit
-    Odd, // a byte that is no digit
-    Large, // more than 64 bits, or more than 60 in decimal
+impl<'a> Iterator for Words<'a> {
+    type Item = &'a [u8];
+
+    // The word stands in the line, and what is left of the line behind it.
+    ghost next_gives = { λ s r t. IfSome r (λ word. (before : List ℕ) × (s.0.now ≡ before ++ (word.now ++ t.0.now))) };
+
+    ghost remaining = { λ s. at_most (length s.0.now) };
+
+    fn next(&mut self) -> Option<&'a [u8]> {
+        let line = self.0;
+        let start = line.iter().position(|b| !is_space(*b))?;
+        let rest = &line[start + 1..];
+        let more = rest.iter().position(|b| is_space(*b)).unwrap_or(rest.len());
+        let end = start + 1 + more;
+        self.0 = &line[end..];
+        Some(&line[start..end])
+    }
 }
 
 fn is_space(b: u8) -> bool {
-    b == b' ' || b == b'\t' || b == b'\r'
-}
-
-// A comment or a line's end.
-fn is_end(b: u8) -> bool {
-    b == b'#' || b == b'\n'
-}
-
-// What a scan passes over.
-#[derive(Clone, Copy)]
-pub enum Run {
-    Spaces,
-    Word,
-    Line,
-}
-
-fn goes_on(run: Run, b: u8) -> bool {
-    match run {
-        Run::Spaces => is_space(b),
-        Run::Word => !is_space(b) && !is_end(b),
-        Run::Line => b != b'\n',
-    }
-}
-
-// The place behind the run that begins at `from`.
-pub fn past(run: Run, text: &[u8], from: usize) -> usize
-    requires { from ≤ length text.now }
-    ensures { Within from result (length text.now) }
-{
-    let mut i = from;
-    while i < text.len() && goes_on(run, text[i]) {
-        i += 1;
-    }
-    i
-}
-
-// The next word of the line, from `from` on.
-pub fn next_word(text: &[u8], from: usize) -> Word
-    requires { from ≤ length text.now }
-    ensures { Within from result.from result.to × (result.to ≤ length text.now) }
-{
-    let start = past(Run::Spaces, text, from);
-    let end = past(Run::Word, text, start);
-    Word {
-        from: start,
-        to: end,
-    }
-}
-
-// What a digit stands for, or 16.
-fn digit(b: u8) -> u64
-    ensures { result ≤ 16 }
-{
-    match b {
-        b'0'..=b'9' => (b - b'0') as u64,
-        b'A'..=b'F' => (b - b'A') as u64 + 10,
-        b'a'..=b'f' => (b - b'a') as u64 + 10,
-        _ => 16,
-    }
+    matches!(b, b' ' | b'\t' | b'\r')
 }
 
 // A number in the given base; digits may be set apart by _.
-fn of_digits(word: &[u8], base: u64) -> Number
-    requires { (1 ≤ base) × (base ≤ 16) }
+fn number(word: &[u8], base: u32) -> Result<u64, NumberFault>
+    requires { (2 ≤ base) × (base ≤ 16) }
 {
-    if word.len() == 0 {
-        return Number::Missing;
-    }
-    if word[0] == b'_' {
-        return Number::Odd;
+    match word {
+        [] => return Err(NumberFault::Missing),
+        [b'_', ..] => return Err(NumberFault::Odd),
+        _ => {}
     }
     let mut value = 0;
-    let mut i = 0;
-    while i < word.len() {
-        let b = word[i];
-        if b != b'_' {
-            let d = digit(b);
-            if base <= d {
-                return Number::Odd;
-            }
+    for b in word {
+        if *b != b'_' {
+            let digit = char::from(*b).to_digit(base).ok_or(NumberFault::Odd)?;
             if MOST < value {
-                return Number::Large;
+                return Err(NumberFault::Large);
             }
-            value = value * base + d;
+            value = value * u64::from(base) + u64::from(digit);
         }
-        i += 1;
     }
-    Number::Is(value)
+    Ok(value)
 }
 
-pub fn hex(word: &[u8]) -> Number {
-    of_digits(word, 16)
+// The two bases that there are. Their callers are asked nothing of a base, as those of `number` are.
+pub fn hex(word: &[u8]) -> Result<u64, NumberFault> {
+    number(word, 16)
 }
 
-pub fn decimal(word: &[u8]) -> Number {
-    of_digits(word, 10)
+pub fn decimal(word: &[u8]) -> Result<u64, NumberFault> {
+    number(word, 10)
 }

@@ -1,62 +1,44 @@
-// A deck, written: what a person or `decks::read` reads. What is zero is left out, but for the record.
+// A job's deck, written: what a person or `Deck::read` reads. What is zero is left out, but for the record.
 ghost use Rattle.std.specs.Prelude.{◌≤◌, length};
 
-use crate::decks::Deck;
-use fields::bytes;
-use lines::{hex, text};
-use std::io;
+use crate::jobs::Job;
+use fields::bytes::{self, WORD};
+use std::fmt;
 
-// A name and its number.
-fn line(out: &impl Print, name: &[u8], value: u64, digits: usize) -> io::Result<()> {
-    hex(out, name, value, digits)?;
-    text(out, b"\n")
-}
-
-fn line_at(out: &impl Print, name: &[u8], place: u64, digits: usize, value: u64) -> io::Result<()> {
-    hex(out, name, place, digits)?;
-    line(out, b" ", value, 16)
-}
-
-fn record(out: &impl Print, d: Deck) -> io::Result<()> {
-    line(out, b"memory ", d.bytes as u64, 1)?;
-    line(out, b"p ", d.p, 1)?;
-    line(out, b"mark ", d.mark, 1)?;
-    line(out, b"held ", d.held, 16)?;
-    line(out, b"items ", d.items, 1)?;
-    line(out, b"flags ", d.flags, 1)
-}
-
-fn registers(out: &impl Print, values: &[u64]) -> io::Result<()> {
-    let mut i = 0;
-    while i < values.len() {
-        let value = values[i];
-        if value != 0 {
-            line_at(out, b"register ", i as u64, 2, value)?;
+// Registers and words are a loop each: one iterator over both would be a type of its own, with an enum of places, for loops of three lines.
+fn registers<W: fmt::Write>(f: &mut fmt::Formatter<W>, values: &[u64; 256]) -> fmt::Result {
+    for (k, value) in values.iter().enumerate() {
+        if *value != 0 {
+            writeln!(f, "register {k:02x} {value:016x}")?;
         }
-        i += 1;
     }
     Ok(())
 }
 
-fn words(out: &impl Print, memory: &[u8]) -> io::Result<()>
+fn words<W: fmt::Write>(f: &mut fmt::Formatter<W>, memory: &[u8]) -> fmt::Result
     requires { length memory.now ≤ 65536 }
 {
-    let count = memory.len() / 8;
-    let mut i = 0;
-    while i < count {
-        let value = bytes::word(memory, i * 8);
+    for (k, word) in memory.chunks_exact(8).enumerate() {
+        let value = bytes::read::<WORD>(word, 0);
         if value != 0 {
-            line_at(out, b"word ", 0x4000 + 64 * i as u64, 4, value)?;
+            let address = 0x4000 + 0x40 * k;
+            writeln!(f, "word {address:04x} {value:016x}")?;
         }
-        i += 1;
     }
     Ok(())
 }
 
-pub fn deck(out: &impl Print, d: Deck, memory: &[u8], values: &[u64]) -> io::Result<()>
-    requires { length memory.now ≤ 65536 }
-{
-    record(out, d)?;
-    registers(out, values)?;
-    words(out, memory)
+impl fmt::Display for Job {
+    fn fmt<W: fmt::Write>(&self, f: &mut fmt::Formatter<W>) -> fmt::Result {
+        let rec = self.rec;
+        let length = self.length.bytes;
+        writeln!(f, "memory {length:x}")?;
+        writeln!(f, "p {:x}", rec.p)?;
+        writeln!(f, "mark {:x}", rec.mark)?;
+        writeln!(f, "held {:016x}", rec.word)?;
+        writeln!(f, "items {:x}", rec.items)?;
+        writeln!(f, "flags {:x}", rec.flags)?;
+        registers(f, &self.registers)?;
+        words(f, self.memory())
+    }
 }

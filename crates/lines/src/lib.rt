@@ -1,4 +1,4 @@
-// What the programs read and write: a text and a number behind it, the parts of a line; and a buffer that is filled.
+// What the programs read: a buffer that is filled.
 #![tactic(auto)]
 
 ghost use Rattle.std.specs.Prelude.{◌≡◌, ◌≤◌, length, IfOk, OnErr};
@@ -6,21 +6,8 @@ ghost use Rattle.std.specs.Prelude.{◌≡◌, ◌≤◌, length, IfOk, OnErr};
 use std::io;
 use std::io::Read;
 
-pub fn text(out: &impl Print, what: &[u8]) -> io::Result<()> {
-    out.write_all(what)
-}
-
-pub fn hex(out: &impl Print, what: &[u8], value: u64, width: usize) -> io::Result<()> {
-    text(out, what)?;
-    print!(out; "{value:0width$x}")
-}
-
-pub fn decimal(out: &impl Print, what: &[u8], value: u64) -> io::Result<()> {
-    text(out, what)?;
-    print!(out; "{value}")
-}
-
-// Reads until the place is full or the input ends, and returns how many bytes stand at its start.
+// Reads until the place is full or the input ends, and returns how many bytes stand at its start. std has no such call: `read_exact` tells no count where the
+// input ends, and `read_to_end` takes the heap.
 pub fn read_full(input: &mut impl Read, place: &mut [u8]) -> io::Result<usize>
     ensures ok { IfOk result (λ n. n ≤ length place.new) }
     ensures err { OnErr result (length place.new ≡ length place.old) }

@@ -1,3 +1,2 @@
 -- What the program's functions promise of each other.
 pub mod Parts
-pub mod Cases

@@ -15,15 +15,21 @@
 #![tactic(auto)]
 
 mod cases; // a case, read, worked and answered
+mod faults; // what is wrong with a case
+mod headers; // what a case asks
 mod parts; // the calls of a case
 mod words; // the words of a case and of its result
 
+use cases::{Replay, SPACE};
 use std::io;
 
 fn main(rt: HostRuntime) -> io::Result<()> {
-    let mut space = [0u8; 69688];
-    let mut registers = [0u64; 512];
-    let mut stdin = rt.stdin();
-    let err = rt.stderr();
-    cases::all(&mut stdin, &rt, &err, &mut space, &mut registers)
+    let mut replay = Replay {
+        stdin: rt.stdin(),
+        stdout: rt.stdout(),
+        stderr: rt.stderr(),
+        space: [0; SPACE],
+        registers: [0; 512],
+    };
+    replay.all()
 }

@@ -1,5 +1,5 @@
 // The calls of a case: one, or calls of `part` steps one after another. They come to what one call comes to.
-ghost use Rattle.std.specs.Prelude.{◌≡◌, ◌+◌, ◌<◌, ◌^◌, min};
+ghost use Rattle.std.specs.Prelude.{◌≡◌, ◌+◌, ◌<◌, ◌^◌};
 ghost use Rattle.runs.specs.Steps.{lent_at};
 ghost use Rattle.runs.specs.Calls.{leaves, run};
 ghost use Rattle.replay.specs.Parts.{calls_on, together};
@@ -9,21 +9,11 @@ use runs::calls;
 use runs::calls::Outcome;
 use runs::records::Record;
 
-fn least(a: u32, b: u32) -> u32
-    ensures { result ≡ min a b }
-{
-    if a < b { a } else { b }
-}
-
 // Is there another call to make?
 fn goes_on(sum: Outcome, left: u32) -> bool
     ensures { result ≡ calls_on sum left }
 {
-    let answer = sum.answer;
-    if is_paused(answer) {
-        return 0 < left;
-    }
-    false
+    is_paused(sum.answer) && 0 < left
 }
 
 // A call after others.
@@ -31,16 +21,15 @@ fn together(sum: Outcome, last: Outcome) -> Outcome
     requires { sum.steps + last.steps < 2 ^ 32 }
     ensures { result ≡ together sum last }
 {
-    let answer = last.answer;
-    let rec = last.rec;
     Outcome {
-        answer,
+        answer: last.answer,
         steps: sum.steps + last.steps,
-        rec,
+        rec: last.rec,
     }
 }
 
-// Calls of `part` steps, the last one smaller, up to the first answer that is not 0.
+// Calls of `part` steps, the last one smaller, up to the first answer that is not 0. No `for` has its range: what is left of
+// the budget is part of what the contract speaks of, and the answer of the last call says whether there is another.
 fn in_parts(
     memory: &mut [u8],
     registers: &mut [u64],
@@ -51,11 +40,11 @@ fn in_parts(
     requires { 0 < part }
     ensures { leaves (lent_at memory.new registers.new) result ≡ run budget (lent_at memory.old registers.old rec) }
 {
-    let first = least(part, budget);
+    let first = part.min(budget);
     let mut left = budget - first;
     let mut sum = calls::run(memory, registers, rec, first);
     while goes_on(sum, left) {
-        let k = least(part, left);
+        let k = part.min(left);
         let last = calls::run(memory, registers, sum.rec, k);
         sum = together(sum, last);
         left -= k;

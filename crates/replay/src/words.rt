@@ -1,70 +1,15 @@
-// The words of a case and of its result, where they stand in the space.
-ghost use Rattle.std.specs.Prelude.{◌+◌, ◌*◌, ◌≤◌, length};
+// Words in bytes, one after another, the left byte first.
 
-use fields::bytes;
-use runs::answers;
-use runs::calls::Outcome;
-use runs::records::Record;
-
-// The record of a header.
-pub fn record(space: &[u8]) -> Record
-    requires { 72 ≤ length space.now }
-{
-    let p = bytes::word(space, 16);
-    let mark = bytes::word(space, 24);
-    let word = bytes::word(space, 32);
-    let items = bytes::word(space, 40);
-    let flags = bytes::word(space, 48);
-    Record {
-        p,
-        mark,
-        word,
-        items,
-        flags,
+// The words of the place, as many as are asked for and as it has.
+pub fn take(place: &[u8], words: &mut [u64]) {
+    for (bytes, word) in place.as_chunks::<8>().0.iter().zip(words.iter_mut()) {
+        *word = u64::from_be_bytes(*bytes);
     }
 }
 
-// The registers, from byte 56 on.
-pub fn take_registers(space: &[u8], registers: &mut [u64])
-    requires { (length registers.old ≤ 512) × (56 + 8 * length registers.old ≤ length space.now) }
-{
-    let mut i = 0;
-    while i < registers.len() {
-        registers[i] = bytes::word(space, 56 + 8 * i);
-        i += 1;
-    }
-}
-
-pub fn put_registers(space: &mut [u8], registers: &[u64])
-    requires { (length registers.now ≤ 512) × (56 + 8 * length registers.now ≤ length space.old) }
-{
-    let mut i = 0;
-    while i < registers.len() {
-        bytes::put_word(space, 56 + 8 * i, registers[i]);
-        i += 1;
-    }
-}
-
-// Answer, steps and record, before the registers.
-pub fn put_outcome(space: &mut [u8], r: Outcome)
-    requires { 56 ≤ length space.old }
-{
-    let answer = r.answer;
-    let rec = r.rec;
-    bytes::put_word(space, 0, answers::number(answer));
-    bytes::put_word(space, 8, r.steps as u64);
-    bytes::put_word(space, 16, rec.p);
-    bytes::put_word(space, 24, rec.mark);
-    bytes::put_word(space, 32, rec.word);
-    bytes::put_word(space, 40, rec.items);
-    bytes::put_word(space, 48, rec.flags);
-}
-
-// Zeros.
-pub fn clear(bytes: &mut [u8]) {
-    let mut i = 0;
-    while i < bytes.len() {
-        bytes[i] = 0;
-        i += 1;
+// Words to the place, as many as there are and as it has room for: the library's methods, for which a crate that programs share would be no plainer.
+pub fn put(place: &mut [u8], words: &[u64]) {
+    for (bytes, word) in place.as_chunks_mut::<8>().0.iter_mut().zip(words) {
+        *bytes = word.to_be_bytes();
     }
 }

@@ -1,9 +1,0 @@
--- The value is looked at before each digit, so that it stays within 64 bits.
-use Rattle.std.proofs.Common.{◌-◌, ◌≤◌, length}
-use Rattle.job.proofs.scan.of_digits.Given as goal
-
-abbrev pub invariant-loop-i : goal.invariant-loop-i
-invariant-loop-i l = l.i ≤ length l.word
-
-abbrev pub decreases-loop-i : goal.decreases-loop-i
-decreases-loop-i l = length l.word - l.i

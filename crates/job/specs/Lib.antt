@@ -1,2 +1,0 @@
--- The definitions that the contracts of `job` cite.
-pub mod Places

@@ -1,9 +1,0 @@
--- `replay::parts::goes_on` meets its contract.
-use mathlib.Core.Path.{sym, ◌∙◌}
-use Rattle.replay.proofs.parts.goes_on.Goals as goal
-
-pub returns-then-is_paused : goal.returns-then-is_paused
-returns-then-is_paused c = rw (sym c.is_paused.ensures ∙ c.if-is_paused.true)
-
-pub returns : goal.returns
-returns c = rw (sym c.is_paused.ensures ∙ c.if-is_paused.false)
