@@ -8,14 +8,15 @@ mod of_codes; // every listed code, and every refusal that its word can meet
 mod of_fields; // memory, extents, overlaps, and what compress, merge and mask read
 mod of_runs; // the reservoir job, a vector over its own word, a move, refusals
 mod of_numbers; // one word or two: 2C to 2E, 63, 67, 70 to 72, 76, 77, 7A to 7C, 8A
+mod words; // memory as words, and registers by their numbers
 
 use std::io;
 
 fn main(rt: HostRuntime) -> io::Result<()> {
-    of_numbers::contracts(&rt)?;
+    of_numbers::contract_each(&rt)?;
     of_numbers::wholes(&rt)?;
-    of_numbers::shifts(&rt)?;
-    of_numbers::words(&rt)?;
+    of_numbers::shift_each(&rt)?;
+    of_numbers::of_two_words(&rt)?;
     of_numbers::numbers_taken_apart(&rt)?;
     of_fields::reads_and_writes(&rt)?;
     of_fields::counts(&rt)?;

@@ -1,7 +1,5 @@
 // Three jobs of 64 bytes, from 4000 on.
 use crate::lent::Lent;
-use fields::memory;
-use fields::units::BitAddress;
 
 const EXIT: u64 = 0x0900_0000_0000_0000;
 
@@ -13,31 +11,24 @@ const VECTOR_TRANSMIT: u64 = 0x9800_0010_0000_0011;
 
 // Three days of inflow at 4080 are added to the storage at 4140, in its place; then exit.
 pub fn reservoir() -> Lent {
-    let mut m = [0u8; 64];
-    let mut registers = [0u64; 256];
-    memory::write_word(&mut m, BitAddress(0x4000), VECTOR_ADD);
-    memory::write_word(&mut m, BitAddress(0x4040), EXIT);
-    memory::write_word(&mut m, BitAddress(0x4080), 5);
-    memory::write_word(&mut m, BitAddress(0x40C0), 7);
-    memory::write_word(&mut m, BitAddress(0x4100), 11);
-    memory::write_word(&mut m, BitAddress(0x4140), 100);
-    memory::write_word(&mut m, BitAddress(0x4180), 200);
-    memory::write_word(&mut m, BitAddress(0x41C0), 300);
-    registers[0x10] = 0x0003_0000_0000_4080; // the inflow, three words
-    registers[0x11] = 0x0003_0000_0000_4140; // the storage
-    Lent { m, registers }
+    Lent::new(
+        &[VECTOR_ADD, EXIT, 5, 7, 11, 100, 200, 300],
+        &[
+            (0x10, 0x0003_0000_0000_4080), // the inflow, three words
+            (0x11, 0x0003_0000_0000_4140), // the storage
+        ],
+    )
 }
 
 // Two zeros are transmitted over the instruction itself and the word behind it, where then no code stands.
 pub fn own_word() -> Lent {
-    let mut m = [0u8; 64];
-    let mut registers = [0u64; 256];
-    memory::write_word(&mut m, BitAddress(0x4000), VECTOR_TRANSMIT);
-    memory::write_word(&mut m, BitAddress(0x4040), VECTOR_TRANSMIT);
-    memory::write_word(&mut m, BitAddress(0x4080), EXIT);
-    registers[0x10] = 0x0002_0000_0000_4100; // two words of zero
-    registers[0x11] = 0x0002_0000_0000_4000; // the instruction and the word behind it
-    Lent { m, registers }
+    Lent::new(
+        &[VECTOR_TRANSMIT, VECTOR_TRANSMIT, EXIT],
+        &[
+            (0x10, 0x0002_0000_0000_4100), // two words of zero
+            (0x11, 0x0002_0000_0000_4000), // the instruction and the word behind it
+        ],
+    )
 }
 
 // 77 of register 10 to half word 60, which is too large: flags 42 and 46. 2C of 11 and 12 to 31.
@@ -51,18 +42,16 @@ const LOAD: u64 = 0x7E15_1633_0000_0000;
 
 // Three steps, the last one a branch past an exit to a load of the word behind the memory.
 pub fn past_the_end() -> Lent {
-    let mut m = [0u8; 64];
-    let mut registers = [0u64; 256];
-    memory::write_word(&mut m, BitAddress(0x4000), ROUND_AND_DIFFER);
-    memory::write_word(&mut m, BitAddress(0x4040), BRANCH);
-    memory::write_word(&mut m, BitAddress(0x4080), EXIT);
-    memory::write_word(&mut m, BitAddress(0x40C0), LOAD);
-    registers[0x10] = 0x0057_7FFF_FFFF_FFFF; // the largest number that can be contracted, which rounds out of the range
-    registers[0x11] = 0x1111_0000_0000_0003; // 3
-    registers[0x12] = 0x2222_FFFF_FFFF_FFFE; // -2
-    registers[0x13] = 0x0000_0000_0000_40C0; // the load's address
-    registers[0x14] = 0x0000_0000_0000_0002; // the sum is 1
-    registers[0x15] = 0x0000_0000_0000_4000; // where the memory begins
-    registers[0x16] = 0x0000_0000_0000_0008; // how many words it has
-    Lent { m, registers }
+    Lent::new(
+        &[ROUND_AND_DIFFER, BRANCH, EXIT, LOAD],
+        &[
+            (0x10, 0x0057_7FFF_FFFF_FFFF), // the largest number that can be contracted, which rounds out of the range
+            (0x11, 0x1111_0000_0000_0003), // 3
+            (0x12, 0x2222_FFFF_FFFF_FFFE), // -2
+            (0x13, 0x0000_0000_0000_40C0), // the load's address
+            (0x14, 0x0000_0000_0000_0002), // the sum is 1
+            (0x15, 0x0000_0000_0000_4000), // where the memory begins
+            (0x16, 0x0000_0000_0000_0008), // how many words it has
+        ],
+    )
 }

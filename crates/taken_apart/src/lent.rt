@@ -1,7 +1,6 @@
 // What a run is lent, by value, and the lines that say how it stands.
-use fields::memory;
-use fields::units::BitAddress;
 use runs::answers;
+use runs::answers::Answer;
 use runs::calls::Outcome;
 use runs::control::Control;
 use runs::records::Record;
@@ -13,62 +12,94 @@ pub struct Lent {
     pub registers: [u64; 256],
 }
 
-fn record(out: &impl Print, rec: Record) -> io::Result<()> {
-    lines::hex(out, b", P ", rec.p, 1)?;
-    lines::decimal(out, b", mark ", rec.mark)?;
-    lines::hex(out, b", held ", rec.word, 16)?;
-    lines::decimal(out, b", items ", rec.items)?;
-    lines::hex(out, b", flags ", rec.flags, 6)?;
-    lines::text(out, b"\n")
+impl Lent {
+    // The words from 4000 on, and what registers hold; all others are zero.
+    pub fn new(words: &[u64], values: &[(u8, u64)]) -> Lent {
+        Lent {
+            m: memory(words),
+            registers: registers(values),
+        }
+    }
+
+    fn memory(&self, out: &impl Print) -> io::Result<()> {
+        print!(out; "  memory")?;
+        for bytes in self.m.as_chunks::<8>().0 {
+            print!(out; " {:016x}", u64::from_be_bytes(*bytes))?;
+        }
+        println!(out)
+    }
+
+    // All of memory, and the registers that the jobs write.
+    pub fn show(&self, out: &impl Print) -> io::Result<()> {
+        self.memory(out)?;
+        print!(out; "  registers 30 to 33")?;
+        for register in &self.registers[0x30..0x34] {
+            print!(out; " {register:016x}")?;
+        }
+        println!(out)
+    }
 }
 
-// A job's name and its budget.
-pub fn heading(out: &impl Print, what: &[u8], budget: u32) -> io::Result<()> {
-    lines::text(out, what)?;
-    lines::decimal(out, b", budget ", budget as u64)?;
-    lines::text(out, b"\n")
+// The library's methods, for which a crate that programs share would be no plainer.
+fn memory(words: &[u64]) -> [u8; 64] {
+    let mut m = [0; 64];
+    for (bytes, word) in m.as_chunks_mut::<8>().0.iter_mut().zip(words) {
+        *bytes = word.to_be_bytes();
+    }
+    m
 }
 
-pub fn outcome(out: &impl Print, what: &[u8], r: Outcome) -> io::Result<()> {
-    let answer = r.answer;
-    let rec = r.rec;
-    lines::text(out, what)?;
-    lines::decimal(out, b": answer ", answers::number(answer))?;
-    lines::decimal(out, b", steps ", r.steps as u64)?;
-    record(out, rec)
+fn registers(values: &[(u8, u64)]) -> [u64; 256] {
+    let mut registers = [0; 256];
+    for (register, value) in values {
+        registers[*register as usize] = *value;
+    }
+    registers
 }
 
-pub fn control(out: &impl Print, what: &[u8], c: Control) -> io::Result<()> {
-    let answer = c.answer;
-    let rec = c.rec;
-    lines::text(out, what)?;
-    lines::decimal(out, b": answer ", answers::number(answer))?;
-    lines::decimal(out, b", left ", c.left as u64)?;
-    record(out, rec)
+// What is asked of a run, and its name.
+#[derive(Clone, Copy)]
+pub struct Asked {
+    pub what: &'static str,
+    pub rec: Record,
+    pub budget: u32,
 }
 
-fn first_words(out: &impl Print, m: &[u8; 64]) -> io::Result<()> {
-    lines::hex(out, b" ", memory::read_word(m, BitAddress(0x4000)), 16)?;
-    lines::hex(out, b" ", memory::read_word(m, BitAddress(0x4040)), 16)?;
-    lines::hex(out, b" ", memory::read_word(m, BitAddress(0x4080)), 16)?;
-    lines::hex(out, b" ", memory::read_word(m, BitAddress(0x40C0)), 16)
+impl Asked {
+    // A run that begins between two instructions, at p.
+    pub fn at(p: u64, what: &'static str, budget: u32) -> Asked {
+        let rec = Record::between(p, 0);
+        Asked { what, rec, budget }
+    }
+
+    pub fn heading(self, out: &impl Print) -> io::Result<()> {
+        let Asked { what, budget, .. } = self;
+        println!(out; "{what}, budget {budget}")
+    }
 }
 
-fn last_words(out: &impl Print, m: &[u8; 64]) -> io::Result<()> {
-    lines::hex(out, b" ", memory::read_word(m, BitAddress(0x4100)), 16)?;
-    lines::hex(out, b" ", memory::read_word(m, BitAddress(0x4140)), 16)?;
-    lines::hex(out, b" ", memory::read_word(m, BitAddress(0x4180)), 16)?;
-    lines::hex(out, b" ", memory::read_word(m, BitAddress(0x41C0)), 16)
+// A line: the answer, how many steps, and the record.
+fn line(
+    out: &impl Print,
+    what: &str,
+    answer: Answer,
+    steps: (&str, u32),
+    rec: Record,
+) -> io::Result<()> {
+    let number = answers::number(answer);
+    let (name, count) = steps;
+    print!(out; "{what}: answer {number}, {name} {count}, P {:x}", rec.p)?;
+    println!(out;
+        ", mark {}, held {:016x}, items {}, flags {:06x}",
+        rec.mark, rec.word, rec.items, rec.flags
+    )
 }
 
-// All of memory, and the registers that the jobs write.
-pub fn show(out: &impl Print, m: &[u8; 64], registers: &[u64; 256]) -> io::Result<()> {
-    lines::text(out, b"  memory")?;
-    first_words(out, m)?;
-    last_words(out, m)?;
-    lines::hex(out, b"\n  registers 30 to 33 ", registers[0x30], 16)?;
-    lines::hex(out, b" ", registers[0x31], 16)?;
-    lines::hex(out, b" ", registers[0x32], 16)?;
-    lines::hex(out, b" ", registers[0x33], 16)?;
-    lines::text(out, b"\n")
+// What a run leaves, and how it stands under way, are types of their own.
+pub fn outcome(out: &impl Print, what: &str, r: Outcome) -> io::Result<()> {
+    line(out, what, r.answer, ("steps", r.steps), r.rec)
+}
+
+pub fn control(out: &impl Print, what: &str, c: Control) -> io::Result<()> {
+    line(out, what, c.answer, ("left", c.left), c.rec)
 }

@@ -22,12 +22,11 @@ fn main(rt: HostRuntime) -> io::Result<()> {
     of_words::sums(&rt)?;
     of_words::differences(&rt)?;
     of_words::vectors(&rt)?;
-    of_words::shifts(&rt)?;
     of_fields::bits(&rt)?;
     of_fields::moves(&rt)?;
     of_fields::vectors_end(&rt)?;
-    of_fields::vectors_of_no_items(&rt)?;
-    of_fields::loads_and_stores(&rt)?;
+    of_fields::loads(&rt)?;
+    of_fields::stores(&rt)?;
     of_branches::packed(&rt)?;
     of_branches::targets(&rt)?;
     of_branches::sums(&rt)?;

@@ -1,9 +1,7 @@
 // 000 3.1.2's chart of packed instructions, and 3.2.1.182's table of the order of numbers.
 use crate::jobs;
-use crate::jobs::Pair;
+use crate::jobs::Case;
 use crate::printed::{A, B_ALIGNED, MINUS_A, MINUS_B_ALIGNED, MINUS_S, R_ALIGNED};
-use fields::memory;
-use fields::units::BitAddress;
 use runs::calls::Outcome;
 use runs::records::Record;
 use runs::{answers, calls};
@@ -11,207 +9,166 @@ use std::io;
 
 // The five words of the chart: 32-bit ones are transmits and an exit, 64-bit ones are branches that are not taken. Behind them a branch that is taken, to a
 // base of 4000 and an index of half words.
+const CHART: [u64; 6] = [
+    0x7810_0011_B100_0000,
+    0x0012_0013_B100_0000,
+    0x0012_0013_7810_0011,
+    0xB100_0000_0012_0013,
+    0x7810_0011_0900_0000,
+    0xB000_0000_1412_0013,
+];
+
 fn chart(p: u64, budget: u32, half_words: u64) -> Outcome {
     let mut m = [0u8; 48];
+    jobs::put(&mut m, &CHART);
     let mut registers = [0u64; 256];
-    memory::write_word(&mut m, BitAddress(0x4000), 0x7810_0011_B100_0000);
-    memory::write_word(&mut m, BitAddress(0x4040), 0x0012_0013_B100_0000);
-    memory::write_word(&mut m, BitAddress(0x4080), 0x0012_0013_7810_0011);
-    memory::write_word(&mut m, BitAddress(0x40C0), 0xB100_0000_0012_0013);
-    memory::write_word(&mut m, BitAddress(0x4100), 0x7810_0011_0900_0000);
-    memory::write_word(&mut m, BitAddress(0x4140), 0xB000_0000_1412_0013);
     registers[0x12] = 0x4000;
     registers[0x14] = half_words;
     calls::run(&mut m, &mut registers, Record::between(p, 0), budget)
 }
 
 // P after so many instructions of the chart, and the answer.
-fn after(out: &impl Print, instructions: u32) -> io::Result<()> {
-    let r = chart(0x4000, instructions, 0);
-    let answer = r.answer;
-    let rec = r.rec;
-    lines::decimal(out, b"09 000 3.1.2 chart, ", r.steps as u64)?;
-    lines::hex(out, b" instructions: P ", rec.p, 4)?;
-    lines::decimal(out, b" answer ", answers::number(answer))?;
-    lines::text(out, b"\n")
-}
-
-// Where B0 goes from behind the chart.
-fn target(out: &impl Print, half_words: u64) -> io::Result<()> {
-    let r = chart(0x4140, 1, half_words);
-    let rec = r.rec;
-    lines::hex(out, b"b0 000 3.1.2 chart, half words ", half_words, 1)?;
-    lines::hex(out, b": P ", rec.p, 4)?;
-    lines::text(out, b"\n")
-}
-
 pub fn packed(out: &impl Print) -> io::Result<()> {
-    after(out, 0)?;
-    after(out, 1)?;
-    after(out, 2)?;
-    after(out, 3)?;
-    after(out, 4)?;
-    after(out, 5)?;
-    after(out, 6)?;
-    after(out, 7)
+    for instructions in 0..8 {
+        let r = chart(0x4000, instructions, 0);
+        let number = answers::number(r.answer);
+        print!(out; "09 000 3.1.2 chart, {} instructions: ", r.steps)?;
+        println!(out; "P {:04x} answer {number}", r.rec.p)?;
+    }
+    Ok(())
 }
 
-// A branch is possible to any of the instructions.
+// Where B0 goes from behind the chart: a branch is possible to any of the instructions.
 pub fn targets(out: &impl Print) -> io::Result<()> {
-    target(out, 0)?;
-    target(out, 1)?;
-    target(out, 3)?;
-    target(out, 5)?;
-    target(out, 6)?;
-    target(out, 8)?;
-    target(out, 9)
+    for half_words in [0, 1, 3, 5, 6, 8, 9] {
+        let r = chart(0x4140, 1, half_words);
+        println!(out;
+            "b0 000 3.1.2 chart, half words {half_words:x}: P {:04x}",
+            r.rec.p
+        )?;
+    }
+    Ok(())
 }
 
-// The sum of A and X goes to C, with A's left 16. Z is 00 and the condition is not met, so the exit behind is next.
-fn positive(out: &impl Print, word: u64) -> io::Result<()> {
-    jobs::on_registers(
-        out,
-        word,
-        b"000 3.1.4.6.3, A and -B aligned",
-        Pair(A, MINUS_B_ALIGNED),
-        0x12,
-    )
-}
-
-fn negative(out: &impl Print, word: u64) -> io::Result<()> {
-    jobs::on_registers(
-        out,
-        word,
-        b"000 3.1.4.6.3, B aligned and -A",
-        Pair(B_ALIGNED, MINUS_A),
-        0x12,
-    )
-}
-
-fn zero(out: &impl Print, word: u64) -> io::Result<()> {
-    jobs::on_registers(
-        out,
-        word,
-        b"000 3.1.4.5.3, r aligned and -s",
-        Pair(R_ALIGNED, MINUS_S),
-        0x12,
-    )
-}
-
-// A and X 00 supply machine zero, and the branch that is taken goes to the exit.
-fn machine_zero(out: &impl Print, word: u64) -> io::Result<()> {
-    jobs::on_registers(
-        out,
-        word,
-        b"000 3.2.1.182 and 3.1.7, A, X and Z 00",
-        Pair(0, 0x4040),
-        0x12,
-    )
-}
-
+// The sum of A and X goes to C, with A's left 16. Z is 00 and the condition is not met, so the exit behind is next. In the last case A and X 00 supply
+// machine zero, and the branch that is taken goes to the exit.
 pub fn sums(out: &impl Print) -> io::Result<()> {
-    positive(out, 0xB000_1110_0010_0012)?;
-    positive(out, 0xB300_1110_0010_0012)?;
-    positive(out, 0xB400_1110_0010_0012)?;
-    negative(out, 0xB200_1110_0010_0012)?;
-    negative(out, 0xB500_1110_0010_0012)?;
-    zero(out, 0xB100_1110_0010_0012)?;
-    machine_zero(out, 0xB000_0000_0011_0012)
+    let positive = "000 3.1.4.6.3, A and -B aligned";
+    let negative = "000 3.1.4.6.3, B aligned and -A";
+    let zero = "000 3.1.4.5.3, r aligned and -s";
+    let machine_zero = "000 3.2.1.182 and 3.1.7, A, X and Z 00";
+    jobs::on_registers(
+        out,
+        &[
+            (Case(0xB000_1110_0010_0012, positive), [A, MINUS_B_ALIGNED]),
+            (Case(0xB300_1110_0010_0012, positive), [A, MINUS_B_ALIGNED]),
+            (Case(0xB400_1110_0010_0012, positive), [A, MINUS_B_ALIGNED]),
+            (Case(0xB200_1110_0010_0012, negative), [B_ALIGNED, MINUS_A]),
+            (Case(0xB500_1110_0010_0012, negative), [B_ALIGNED, MINUS_A]),
+            (Case(0xB100_1110_0010_0012, zero), [R_ALIGNED, MINUS_S]),
+            (Case(0xB000_0000_0011_0012, machine_zero), [0, 0x4040]),
+        ],
+    )
 }
 
-// 1 where the branch is taken. A is the larger or the smaller number, X supplies zero, Z is the other.
-fn taken(out: &impl Print, word: u64, a: u64, z: u64) -> io::Result<()> {
+// The branches of all six conditions: A is register 10, X supplies zero, B is register 11, Z is register 12.
+const BRANCHES: [u64; 6] = [
+    0xB000_0010_0011_1213,
+    0xB100_0010_0011_1213,
+    0xB200_0010_0011_1213,
+    0xB300_0010_0011_1213,
+    0xB400_0010_0011_1213,
+    0xB500_0010_0011_1213,
+];
+
+// G bit 4: the same unsigned.
+const UNSIGNED_BIT: u64 = 0x0008_0000_0000_0000;
+
+// The columns of the table, from the largest number.
+const SIGNED: [u64; 7] = [
+    0x7FFF_FFFF_FFFF,
+    0x7FFF_FFFF_FFFE,
+    0x0000_0000_0001,
+    0x0000_0000_0000,
+    0xFFFF_FFFF_FFFF,
+    0x8000_0000_0001,
+    0x8000_0000_0000,
+];
+
+const UNSIGNED: [u64; 7] = [
+    0xFFFF_FFFF_FFFF,
+    0xFFFF_FFFF_FFFE,
+    0x8000_0000_0001,
+    0x8000_0000_0000,
+    0x7FFF_FFFF_FFFF,
+    0x0000_0000_0001,
+    0x0000_0000_0000,
+];
+
+// Both ends of the signed column and the middle.
+const ENDS: [u64; 4] = [
+    0x7FFF_FFFF_FFFF,
+    0x0000_0000_0000,
+    0xFFFF_FFFF_FFFF,
+    0x8000_0000_0000,
+];
+
+// Is the branch taken?
+fn taken(word: u64, a: u64, z: u64) -> bool {
     let mut m = [0u8; 8];
+    jobs::put(&mut m, &[word]);
     let mut registers = [0u64; 256];
-    memory::write_word(&mut m, BitAddress(0x4000), word);
     registers[0x10] = a;
     registers[0x11] = 0x4080;
     registers[0x12] = z;
     let r = calls::run(&mut m, &mut registers, Record::between(0x4000, 0), 1);
-    let rec = r.rec;
-    if rec.p == 0x4080 {
-        lines::text(out, b"1")
-    } else {
-        lines::text(out, b"0")
+    r.rec.p == 0x4080
+}
+
+// 1 where the branch is taken, for each of the numbers against the other in its place.
+fn against(out: &impl Print, word: u64, numbers: &[u64], others: &[u64]) -> io::Result<()> {
+    for (a, z) in numbers.iter().zip(others) {
+        let digit = if taken(word, *a, *z) { 1 } else { 0 };
+        print!(out; "{digit}")?;
     }
+    Ok(())
 }
 
-// One after the other of the signed column, from the largest, against the next smaller one; then the other way round.
-fn signed(out: &impl Print, word: u64) -> io::Result<()> {
-    jobs::begin(
-        out,
-        word,
-        b"000 3.2.1.182, signed, each and the next smaller",
-    )?;
-    lines::text(out, b" ")?;
-    taken(out, word, 0x7FFF_FFFF_FFFF, 0x7FFF_FFFF_FFFE)?;
-    taken(out, word, 0x7FFF_FFFF_FFFE, 0x0000_0000_0001)?;
-    taken(out, word, 0x0000_0000_0001, 0x0000_0000_0000)?;
-    taken(out, word, 0x0000_0000_0000, 0xFFFF_FFFF_FFFF)?;
-    taken(out, word, 0xFFFF_FFFF_FFFF, 0x8000_0000_0001)?;
-    taken(out, word, 0x8000_0000_0001, 0x8000_0000_0000)?;
-    lines::text(out, b", the next larger ")?;
-    taken(out, word, 0x7FFF_FFFF_FFFE, 0x7FFF_FFFF_FFFF)?;
-    taken(out, word, 0x0000_0000_0001, 0x7FFF_FFFF_FFFE)?;
-    taken(out, word, 0x0000_0000_0000, 0x0000_0000_0001)?;
-    taken(out, word, 0xFFFF_FFFF_FFFF, 0x0000_0000_0000)?;
-    taken(out, word, 0x8000_0000_0001, 0xFFFF_FFFF_FFFF)?;
-    taken(out, word, 0x8000_0000_0000, 0x8000_0000_0001)?;
-    lines::text(out, b"\n")
+// One after the other of a column against the next smaller one; then the other way round.
+fn column(out: &impl Print, case: Case, numbers: &[u64; 7]) -> io::Result<()> {
+    let larger = &numbers[..6];
+    let smaller = &numbers[1..];
+    case.begin(out)?;
+    print!(out; " ")?;
+    against(out, case.0, larger, smaller)?;
+    print!(out; ", the next larger ")?;
+    against(out, case.0, smaller, larger)?;
+    println!(out)
 }
 
-// The same for the unsigned column, G bit 4.
-fn unsigned(out: &impl Print, word: u64) -> io::Result<()> {
-    jobs::begin(
-        out,
-        word,
-        b"000 3.2.1.182, unsigned, each and the next smaller",
-    )?;
-    lines::text(out, b" ")?;
-    taken(out, word, 0xFFFF_FFFF_FFFF, 0xFFFF_FFFF_FFFE)?;
-    taken(out, word, 0xFFFF_FFFF_FFFE, 0x8000_0000_0001)?;
-    taken(out, word, 0x8000_0000_0001, 0x8000_0000_0000)?;
-    taken(out, word, 0x8000_0000_0000, 0x7FFF_FFFF_FFFF)?;
-    taken(out, word, 0x7FFF_FFFF_FFFF, 0x0000_0000_0001)?;
-    taken(out, word, 0x0000_0000_0001, 0x0000_0000_0000)?;
-    lines::text(out, b", the next larger ")?;
-    taken(out, word, 0xFFFF_FFFF_FFFE, 0xFFFF_FFFF_FFFF)?;
-    taken(out, word, 0x8000_0000_0001, 0xFFFF_FFFF_FFFE)?;
-    taken(out, word, 0x8000_0000_0000, 0x8000_0000_0001)?;
-    taken(out, word, 0x7FFF_FFFF_FFFF, 0x8000_0000_0000)?;
-    taken(out, word, 0x0000_0000_0001, 0x7FFF_FFFF_FFFF)?;
-    taken(out, word, 0x0000_0000_0000, 0x0000_0000_0001)?;
-    lines::text(out, b"\n")
+// A column in each branch, with the bit of G that asks for it.
+fn columns(out: &impl Print, bit: u64, what: &'static str, numbers: &[u64; 7]) -> io::Result<()> {
+    for word in BRANCHES {
+        column(out, Case(word | bit, what), numbers)?;
+    }
+    Ok(())
 }
 
-// A number against itself, at both ends of the signed column and the middle.
-fn equal(out: &impl Print, word: u64) -> io::Result<()> {
-    jobs::begin(out, word, b"000 3.2.1.182, each and itself")?;
-    lines::text(out, b" ")?;
-    taken(out, word, 0x7FFF_FFFF_FFFF, 0x7FFF_FFFF_FFFF)?;
-    taken(out, word, 0x0000_0000_0000, 0x0000_0000_0000)?;
-    taken(out, word, 0xFFFF_FFFF_FFFF, 0xFFFF_FFFF_FFFF)?;
-    taken(out, word, 0x8000_0000_0000, 0x8000_0000_0000)?;
-    lines::text(out, b"\n")
+// A number against itself.
+fn equal(out: &impl Print) -> io::Result<()> {
+    for word in BRANCHES {
+        Case(word, "000 3.2.1.182, each and itself").begin(out)?;
+        print!(out; " ")?;
+        against(out, word, &ENDS, &ENDS)?;
+        println!(out)?;
+    }
+    Ok(())
 }
 
 pub fn order(out: &impl Print) -> io::Result<()> {
-    signed(out, 0xB000_0010_0011_1213)?;
-    signed(out, 0xB100_0010_0011_1213)?;
-    signed(out, 0xB200_0010_0011_1213)?;
-    signed(out, 0xB300_0010_0011_1213)?;
-    signed(out, 0xB400_0010_0011_1213)?;
-    signed(out, 0xB500_0010_0011_1213)?;
-    unsigned(out, 0xB008_0010_0011_1213)?;
-    unsigned(out, 0xB108_0010_0011_1213)?;
-    unsigned(out, 0xB208_0010_0011_1213)?;
-    unsigned(out, 0xB308_0010_0011_1213)?;
-    unsigned(out, 0xB408_0010_0011_1213)?;
-    unsigned(out, 0xB508_0010_0011_1213)?;
-    equal(out, 0xB000_0010_0011_1213)?;
-    equal(out, 0xB100_0010_0011_1213)?;
-    equal(out, 0xB200_0010_0011_1213)?;
-    equal(out, 0xB300_0010_0011_1213)?;
-    equal(out, 0xB400_0010_0011_1213)?;
-    equal(out, 0xB500_0010_0011_1213)
+    let signed = "000 3.2.1.182, signed, each and the next smaller";
+    let unsigned = "000 3.2.1.182, unsigned, each and the next smaller";
+    columns(out, 0, signed, &SIGNED)?;
+    columns(out, UNSIGNED_BIT, unsigned, &UNSIGNED)?;
+    equal(out)
 }
