@@ -9,7 +9,6 @@ use lib.Dec.{eqb, ltb, leb, T, ltb→lt}
 use borrow.Author.Tests.{eq-eqb, ne_eqb}
 use Rattle.fields.specs.Field.{field}
 use Rattle.fields.specs.declared.gathers.Rule.{Rule}
-use Rattle.instructions.specs.declared.table.Format.{Format}
 use Rattle.instructions.specs.declared.table.Kind.{Kind}
 use Rattle.instructions.specs.declared.table.Row.{Row}
 use Rattle.std.specs.Prelude.{Some, None}
@@ -59,18 +58,9 @@ abbrev pub ascending : ℕ → List Line → Bool
 ascending k [] = true
 ascending k (l ∷ ls) = ltb k l.code && (meant l.means && ascending l.code ls)
 
--- the number that the machine's documents give a format
-abbrev pub format_number : Format → ℕ
-format_number Format.One = 0x1
-format_number Format.Three = 0x3
-format_number Format.Four = 0x4
-format_number Format.Seven = 0x7
-format_number Format.A = 0xA
-format_number Format.C = 0xC
-
 -- formats are 1, 3, 4, 7, A and C, and the format decides the length: codes below 80 have 32 bits
 abbrev pub length_rule : Line → Bool
-length_rule l = beq (long l.format) (leb 0x80 l.code) && (long l.format || eqb (format_number l.format) 0x4 || eqb (format_number l.format) 0x7 || eqb (format_number l.format) 0xA)
+length_rule l = beq (long l.format) (leb 0x80 l.code) && (long l.format || eqb l.format 0x4 || eqb l.format 0x7 || eqb l.format 0xA)
 
 -- the format goes with what the code does; 4 and A are those of register instructions, A without S (`format_a_rule`)
 abbrev pub format_is : Meaning → ℕ → Bool
@@ -90,7 +80,7 @@ format_is (works (half_of_a g)) f = eqb f 0x1
 format_is (works moves) f = eqb f 0x3
 
 abbrev pub format_rule : Line → Bool
-format_rule l = format_is l.means (format_number l.format)
+format_rule l = format_is l.means l.format
 
 -- only a format with a G has allowed G bits
 abbrev pub allowed_rule : Line → Bool
@@ -103,8 +93,8 @@ apart_rule l = ltb (zero_bits (row_of l)) (2 ^ 56) && ltb l.named (2 ^ 56) && eq
 -- format A has eight zero bits where S would be, and of format 4 no other than the exit has
 abbrev pub format_a_rule : Line → Bool
 format_a_rule l =
-    (not (eqb (format_number l.format) 0xA) || eqb (bit_and l.zeros at_s) at_s)
-    && (not (eqb (format_number l.format) 0x4) || eqb l.code 0x09 || eqb (bit_and l.zeros at_s) 0)
+    (not (eqb l.format 0xA) || eqb (bit_and l.zeros at_s) at_s)
+    && (not (eqb l.format 0x4) || eqb l.code 0x09 || eqb (bit_and l.zeros at_s) 0)
 
 -- the vectors are those of format 1; X and Y are zero there, G bit 1 is allowed, and Z may be 00 or not
 abbrev pub vector_rule : Line → Bool

@@ -1,6 +1,6 @@
 -- The one table of function codes: a line for each, with its format, its G bits, its designators and its meaning; and how a code is looked up.
 -- Section 3 of docs/MACHINE.md; what the lines say is in its sections 5 to 9.
-use Rattle.std.specs.Prelude.{Bool, false, true, not, cond, List, [], ◌∷◌, map, ℕ, ◌+◌, ◌-◌, ◌*◌, ◌^◌, eqb, slice_get, Option, Some, None}
+use Rattle.std.specs.Prelude.{Bool, false, true, not, cond, ◌||◌, List, [], ◌∷◌, map, ℕ, ◌+◌, ◌-◌, ◌*◌, ◌^◌, eqb, slice_get, Option, Some, None}
 use Rattle.std.specs.Int.Bits.{bit_and, bit_or, bit_xor}
 use Rattle.numbers.specs.Whole.{truncate_of, floor_of, ceiling_of}
 use Rattle.numbers.specs.Contract.{contract_of}
@@ -9,7 +9,6 @@ use Rattle.numbers.specs.Words.{sum_of, difference_of, exponent_word, packed_of,
 use Rattle.numbers.specs.declared.flags.Made.{Made}
 use Rattle.fields.specs.declared.gathers.Rule.{Rule}
 use Rattle.instructions.specs.declared.table.Kind.{Kind}
-use Rattle.instructions.specs.declared.table.Format.{Format}
 use Rattle.instructions.specs.declared.table.Row.{Row}
 use Rattle.instructions.specs.Meanings.{plain, same, less, Act, to_t, to_half_t, loads_byte, loads_word, stores_byte, stores_word, gathers, each_of_a_b, each_of_a, half_of_a, moves, Meaning, unlisted, exits, acts, branches, works, kind_for}
 
@@ -54,56 +53,56 @@ G k = 2 ^ (7 - k)
 -- §3.8: a code, its format, the G bits that may be one, the designators that must be zero, those in which 00 has no meaning, and what the code means.
 pub record Line : Type 0 where
   pub code : ℕ
-  pub format : Format
+  pub format : ℕ
   pub allowed : ℕ
   pub zeros : ℕ
   pub named : ℕ
   pub means : Meaning
 
 -- A line of its six parts.
-abbrev pub line_of : ℕ → Format → ℕ → ℕ → ℕ → Meaning → Line
+abbrev pub line_of : ℕ → ℕ → ℕ → ℕ → ℕ → Meaning → Line
 line_of k f g z n m = record { code = k; format = f; allowed = g; zeros = z; named = n; means = m }
 
 -- §5.6, §5.7, §5.8, §5.9, §5.10, §5.18: format 4: T becomes what f makes of R and S.
 abbrev pub three_registers : ℕ → (ℕ → ℕ → ℕ) → Line
-three_registers k f = line_of k Format.Four 0 0 (at_r + at_s + at_t) (acts (to_t (λ r s. plain (f r s))))
+three_registers k f = line_of k 0x4 0 0 (at_r + at_s + at_t) (acts (to_t (λ r s. plain (f r s))))
 
 -- §5.11, §5.12, §5.13, §5.16, §5.17, §5.19: format A: T becomes what f makes of R, and the place of S is zero.
 abbrev pub two_registers : ℕ → (ℕ → Made ℕ) → Line
-two_registers k f = line_of k Format.A 0 at_s (at_r + at_t) (acts (to_t (λ r s. f r)))
+two_registers k f = line_of k 0xA 0 at_s (at_r + at_t) (acts (to_t (λ r s. f r)))
 
 -- §5.14, §5.15: the same, T being a half word.
 abbrev pub two_registers_half : ℕ → (ℕ → Made ℕ) → Line
-two_registers_half k f = line_of k Format.A 0 at_s (at_r + at_half_t) (acts (to_half_t (λ r s. f r)))
+two_registers_half k f = line_of k 0xA 0 at_s (at_r + at_half_t) (acts (to_half_t (λ r s. f r)))
 
 -- §5.4, §5.5, §5.20, §5.21: format 7: T, and an address of R and S.
 abbrev pub addressed : ℕ → Act → Line
-addressed k a = line_of k Format.Seven 0 0 (at_r + at_s + at_t) (acts a)
+addressed k a = line_of k 0x7 0 0 (at_r + at_s + at_t) (acts a)
 
 -- §8.4, §8.5, §8.6: format 7: R, S and T are descriptors of bits.
 abbrev pub bit_fields : ℕ → Rule → Line
-bit_fields k rule = line_of k Format.Seven 0 0 (at_r + at_s + at_t) (works (gathers rule))
+bit_fields k rule = line_of k 0x7 0 0 (at_r + at_s + at_t) (works (gathers rule))
 
 -- §7.8, §7.9, §7.10: format 1, of A and B: G bits 1, 3 and 4; X and Y are zero.
 abbrev pub vector_two : ℕ → (ℕ → ℕ → ℕ) → Line
-vector_two k f = line_of k Format.One (G 1 + G 3 + G 4) (at_x + at_y) (at_a + at_b + at_c) (works (each_of_a_b (λ a b. plain (f a b))))
+vector_two k f = line_of k 0x1 (G 1 + G 3 + G 4) (at_x + at_y) (at_a + at_b + at_c) (works (each_of_a_b (λ a b. plain (f a b))))
 
 -- §7.11, §7.12, §7.13, §7.16: format 1, of A alone: G bits 1 and 3; B is zero too.
 abbrev pub vector_one : ℕ → (ℕ → Made ℕ) → Line
-vector_one k f = line_of k Format.One (G 1 + G 3) (at_x + at_y + at_b) (at_a + at_c) (works (each_of_a f))
+vector_one k f = line_of k 0x1 (G 1 + G 3) (at_x + at_y + at_b) (at_a + at_c) (works (each_of_a f))
 
 -- §7.14, §7.15: the same with half words in C: G bit 1.
 abbrev pub vector_half : ℕ → (ℕ → Made ℕ) → Line
-vector_half k f = line_of k Format.One (G 1) (at_x + at_y + at_b) (at_a + at_c) (works (half_of_a f))
+vector_half k f = line_of k 0x1 (G 1) (at_x + at_y + at_b) (at_a + at_c) (works (half_of_a f))
 
 -- §6.5, §6.6, §6.7, §6.8, §6.9, §6.10: format C: G bit 4; 00 has a meaning in A, X, Y and Z.
 abbrev pub add_branch : ℕ → (Bool → ℕ → ℕ → Bool) → Line
-add_branch k c = line_of k Format.C (G 4) 0 (at_b + at_c) (branches c)
+add_branch k c = line_of k 0xC (G 4) 0 (at_b + at_c) (branches c)
 
 -- §3.8: the table, a line for each of the 38 codes. The builders above name the rules; code 09 is §5.3, and code F8 is §9.1.
 abbrev pub table : List Line
 table =
-    line_of 0x09 Format.Four 0 (at_r + at_s + at_t) 0 exits ∷  -- exit
+    line_of 0x09 0x4 0 (at_r + at_s + at_t) 0 exits ∷  -- exit
     addressed 0x12 loads_byte ∷  -- load byte
     addressed 0x13 stores_byte ∷  -- store byte
     bit_fields 0x14 Rule.Compress ∷  -- bit compress
@@ -140,7 +139,7 @@ table =
     add_branch 0xB3 (λ u m n. less u m n) ∷  -- add, branch if less
     add_branch 0xB4 (λ u m n. not (less u n m)) ∷  -- add, branch if less or equal
     add_branch 0xB5 (λ u m n. less u n m) ∷  -- add, branch if greater
-    line_of 0xF8 Format.Three 0 at_y (at_a + at_c) (works moves) ∷  -- move bytes left
+    line_of 0xF8 0x3 0 at_y (at_a + at_c) (works moves) ∷  -- move bytes left
     []
 
 -- ---- rows: what the program's own table (src/table.rt) has of a line
@@ -150,7 +149,7 @@ abbrev pub row_of : Line → Row
 row_of l = (l.code, l.format, l.allowed, l.zeros, l.named, kind_for l.means)
 
 -- The parts of a row behind its code: format, G bits that may be one, designators that must be zero, designators in which 00 has no meaning, kind.
-abbrev pub format_of : Row → Format
+abbrev pub format_of : Row → ℕ
 format_of r = r.1
 
 abbrev pub allowed_of : Row → ℕ
@@ -183,22 +182,12 @@ has_items Kind.HalfResult = true
 has_items Kind.Move = true
 
 -- §3.1: the words of a format have 64 bits, and a G.
-abbrev pub long : Format → Bool
-long Format.One = true
-long Format.Three = true
-long Format.Four = false
-long Format.Seven = false
-long Format.A = false
-long Format.C = true
+abbrev pub long : ℕ → Bool
+long f = eqb f 0x1 || eqb f 0x3 || eqb f 0xC
 
 -- §3.10: the format of vectors.
-abbrev pub vector_format : Format → Bool
-vector_format Format.One = true
-vector_format Format.Three = false
-vector_format Format.Four = false
-vector_format Format.Seven = false
-vector_format Format.A = false
-vector_format Format.C = false
+abbrev pub vector_format : ℕ → Bool
+vector_format f = eqb f 0x1
 
 -- §3.9, §3.4: the bits that must be zero: designators, and the G bits that are not allowed or, in a 32-bit word, the right half.
 abbrev pub zero_bits : Row → ℕ

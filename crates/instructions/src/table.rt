@@ -65,7 +65,8 @@ pub enum Kind {
     Move,
 }
 
-// How the parts of a word stand, by the numbers of the machine's documents.
+// How the parts of a word stand, by the numbers of the machine's documents. A row has the number itself, so that `find` and `row_at` say it, and so that a row
+// of any other number has its answers too.
 #[derive(Clone, Copy, PartialEq, Eq)]
 pub enum Format {
     One = 0x1,
@@ -79,98 +80,147 @@ pub enum Format {
 // Code, format, allowed G bits, designators that are zero, designators where 00 has no meaning, kind.
 // A designator that is in neither of the two may be 00 or anything.
 #[derive(Clone, Copy)]
-pub struct Row(pub u8, pub Format, pub u8, pub u64, pub u64, pub Kind);
+pub struct Row(pub u8, pub u8, pub u8, pub u64, pub u64, pub Kind);
 
 // A row for each code, by its name.
-const EXIT: Row = Row(0x09, Format::Four, 0, R | S | T, 0, Kind::Exit);
+const EXIT: Row = Row(0x09, Format::Four as u8, 0, R | S | T, 0, Kind::Exit);
 
-const LOAD_BYTE: Row = Row(0x12, Format::Seven, 0, 0, R | S | T, Kind::LoadByte);
+const LOAD_BYTE: Row = Row(0x12, Format::Seven as u8, 0, 0, R | S | T, Kind::LoadByte);
 
-const STORE_BYTE: Row = Row(0x13, Format::Seven, 0, 0, R | S | T, Kind::StoreByte);
+const STORE_BYTE: Row = Row(0x13, Format::Seven as u8, 0, 0, R | S | T, Kind::StoreByte);
 
-const BIT_COMPRESS: Row = Row(0x14, Format::Seven, 0, 0, R | S | T, Kind::Compress);
+const BIT_COMPRESS: Row = Row(0x14, Format::Seven as u8, 0, 0, R | S | T, Kind::Compress);
 
-const BIT_MERGE: Row = Row(0x15, Format::Seven, 0, 0, R | S | T, Kind::Merge);
+const BIT_MERGE: Row = Row(0x15, Format::Seven as u8, 0, 0, R | S | T, Kind::Merge);
 
-const BIT_MASK: Row = Row(0x16, Format::Seven, 0, 0, R | S | T, Kind::Mask);
+const BIT_MASK: Row = Row(0x16, Format::Seven as u8, 0, 0, R | S | T, Kind::Mask);
 
-const EXCLUSIVE_OR: Row = Row(0x2C, Format::Four, 0, 0, R | S | T, Kind::Register);
+const EXCLUSIVE_OR: Row = Row(0x2C, Format::Four as u8, 0, 0, R | S | T, Kind::Register);
 
-const AND: Row = Row(0x2D, Format::Four, 0, 0, R | S | T, Kind::Register);
+const AND: Row = Row(0x2D, Format::Four as u8, 0, 0, R | S | T, Kind::Register);
 
-const INCLUSIVE_OR: Row = Row(0x2E, Format::Four, 0, 0, R | S | T, Kind::Register);
+const INCLUSIVE_OR: Row = Row(0x2E, Format::Four as u8, 0, 0, R | S | T, Kind::Register);
 
-const ADD_LOW_48: Row = Row(0x63, Format::Four, 0, 0, R | S | T, Kind::Register);
+const ADD_LOW_48: Row = Row(0x63, Format::Four as u8, 0, 0, R | S | T, Kind::Register);
 
-const SUBTRACT_LOW_48: Row = Row(0x67, Format::Four, 0, 0, R | S | T, Kind::Register);
+const SUBTRACT_LOW_48: Row = Row(0x67, Format::Four as u8, 0, 0, R | S | T, Kind::Register);
 
-const TRUNCATE: Row = Row(0x70, Format::A, 0, S, R | T, Kind::Register);
+const TRUNCATE: Row = Row(0x70, Format::A as u8, 0, S, R | T, Kind::Register);
 
-const FLOOR: Row = Row(0x71, Format::A, 0, S, R | T, Kind::Register);
+const FLOOR: Row = Row(0x71, Format::A as u8, 0, S, R | T, Kind::Register);
 
-const CEILING: Row = Row(0x72, Format::A, 0, S, R | T, Kind::Register);
+const CEILING: Row = Row(0x72, Format::A as u8, 0, S, R | T, Kind::Register);
 
-const CONTRACT: Row = Row(0x76, Format::A, 0, S, R | HALF_T, Kind::Register);
+const CONTRACT: Row = Row(0x76, Format::A as u8, 0, S, R | HALF_T, Kind::Register);
 
-const ROUNDED_CONTRACT: Row = Row(0x77, Format::A, 0, S, R | HALF_T, Kind::Register);
+const ROUNDED_CONTRACT: Row = Row(0x77, Format::A as u8, 0, S, R | HALF_T, Kind::Register);
 
-const TRANSMIT: Row = Row(0x78, Format::A, 0, S, R | T, Kind::Register);
+const TRANSMIT: Row = Row(0x78, Format::A as u8, 0, S, R | T, Kind::Register);
 
-const EXPONENT: Row = Row(0x7A, Format::A, 0, S, R | T, Kind::Register);
+const EXPONENT: Row = Row(0x7A, Format::A as u8, 0, S, R | T, Kind::Register);
 
-const PACK: Row = Row(0x7B, Format::Four, 0, 0, R | S | T, Kind::Register);
+const PACK: Row = Row(0x7B, Format::Four as u8, 0, 0, R | S | T, Kind::Register);
 
-const LEFT_16: Row = Row(0x7C, Format::A, 0, S, R | T, Kind::Register);
+const LEFT_16: Row = Row(0x7C, Format::A as u8, 0, S, R | T, Kind::Register);
 
-const LOAD_WORD: Row = Row(0x7E, Format::Seven, 0, 0, R | S | T, Kind::LoadWord);
+const LOAD_WORD: Row = Row(0x7E, Format::Seven as u8, 0, 0, R | S | T, Kind::LoadWord);
 
-const STORE_WORD: Row = Row(0x7F, Format::Seven, 0, 0, R | S | T, Kind::StoreWord);
+const STORE_WORD: Row = Row(0x7F, Format::Seven as u8, 0, 0, R | S | T, Kind::StoreWord);
 
-const VECTOR_ADD_LOW_48: Row = Row(0x83, Format::One, G_134, X | Y, A | B | C, Kind::TwoSources);
-
-const VECTOR_SUBTRACT_LOW_48: Row = Row(
-    0x87,
-    Format::One,
+const VECTOR_ADD_LOW_48: Row = Row(
+    0x83,
+    Format::One as u8,
     G_134,
     X | Y,
     A | B | C,
     Kind::TwoSources,
 );
 
-const VECTOR_SHIFT: Row = Row(0x8A, Format::One, G_134, X | Y, A | B | C, Kind::TwoSources);
+const VECTOR_SUBTRACT_LOW_48: Row = Row(
+    0x87,
+    Format::One as u8,
+    G_134,
+    X | Y,
+    A | B | C,
+    Kind::TwoSources,
+);
 
-const VECTOR_TRUNCATE: Row = Row(0x90, Format::One, G_13, X | Y | B, A | C, Kind::OneSource);
+const VECTOR_SHIFT: Row = Row(
+    0x8A,
+    Format::One as u8,
+    G_134,
+    X | Y,
+    A | B | C,
+    Kind::TwoSources,
+);
 
-const VECTOR_FLOOR: Row = Row(0x91, Format::One, G_13, X | Y | B, A | C, Kind::OneSource);
+const VECTOR_TRUNCATE: Row = Row(
+    0x90,
+    Format::One as u8,
+    G_13,
+    X | Y | B,
+    A | C,
+    Kind::OneSource,
+);
 
-const VECTOR_CEILING: Row = Row(0x92, Format::One, G_13, X | Y | B, A | C, Kind::OneSource);
+const VECTOR_FLOOR: Row = Row(
+    0x91,
+    Format::One as u8,
+    G_13,
+    X | Y | B,
+    A | C,
+    Kind::OneSource,
+);
 
-const VECTOR_CONTRACT: Row = Row(0x96, Format::One, G_1, X | Y | B, A | C, Kind::HalfResult);
+const VECTOR_CEILING: Row = Row(
+    0x92,
+    Format::One as u8,
+    G_13,
+    X | Y | B,
+    A | C,
+    Kind::OneSource,
+);
 
-const VECTOR_ROUNDED_CONTRACT: Row = Row(
-    0x97,
-    Format::One,
+const VECTOR_CONTRACT: Row = Row(
+    0x96,
+    Format::One as u8,
     G_1,
     X | Y | B,
     A | C,
     Kind::HalfResult,
 );
 
-const VECTOR_TRANSMIT: Row = Row(0x98, Format::One, G_13, X | Y | B, A | C, Kind::OneSource);
+const VECTOR_ROUNDED_CONTRACT: Row = Row(
+    0x97,
+    Format::One as u8,
+    G_1,
+    X | Y | B,
+    A | C,
+    Kind::HalfResult,
+);
 
-const ADD_BRANCH_IF_EQUAL: Row = Row(0xB0, Format::C, G_4, 0, B | C, Kind::Branch);
+const VECTOR_TRANSMIT: Row = Row(
+    0x98,
+    Format::One as u8,
+    G_13,
+    X | Y | B,
+    A | C,
+    Kind::OneSource,
+);
 
-const ADD_BRANCH_IF_NOT_EQUAL: Row = Row(0xB1, Format::C, G_4, 0, B | C, Kind::Branch);
+const ADD_BRANCH_IF_EQUAL: Row = Row(0xB0, Format::C as u8, G_4, 0, B | C, Kind::Branch);
 
-const ADD_BRANCH_IF_GREATER_OR_EQUAL: Row = Row(0xB2, Format::C, G_4, 0, B | C, Kind::Branch);
+const ADD_BRANCH_IF_NOT_EQUAL: Row = Row(0xB1, Format::C as u8, G_4, 0, B | C, Kind::Branch);
 
-const ADD_BRANCH_IF_LESS: Row = Row(0xB3, Format::C, G_4, 0, B | C, Kind::Branch);
+const ADD_BRANCH_IF_GREATER_OR_EQUAL: Row = Row(0xB2, Format::C as u8, G_4, 0, B | C, Kind::Branch);
 
-const ADD_BRANCH_IF_LESS_OR_EQUAL: Row = Row(0xB4, Format::C, G_4, 0, B | C, Kind::Branch);
+const ADD_BRANCH_IF_LESS: Row = Row(0xB3, Format::C as u8, G_4, 0, B | C, Kind::Branch);
 
-const ADD_BRANCH_IF_GREATER: Row = Row(0xB5, Format::C, G_4, 0, B | C, Kind::Branch);
+const ADD_BRANCH_IF_LESS_OR_EQUAL: Row = Row(0xB4, Format::C as u8, G_4, 0, B | C, Kind::Branch);
 
-const MOVE_BYTES_LEFT: Row = Row(0xF8, Format::Three, 0, Y, A | C, Kind::Move);
+const ADD_BRANCH_IF_GREATER: Row = Row(0xB5, Format::C as u8, G_4, 0, B | C, Kind::Branch);
+
+const MOVE_BYTES_LEFT: Row = Row(0xF8, Format::Three as u8, 0, Y, A | C, Kind::Move);
 
 // The table.
 const ROWS: [Row; 38] = [
@@ -255,17 +305,15 @@ impl Row {
     pub fn vector(self) -> bool
         ensures { result ≡ vector_format (format_of self) }
     {
-        self.1 == Format::One
+        self.1 == Format::One as u8
     }
 
     // Whether the words have 64 bits, and a G.
     pub fn long(self) -> bool
         ensures { result ≡ long (format_of self) }
     {
-        match self.1 {
-            Format::One | Format::Three | Format::C => true,
-            Format::Four | Format::Seven | Format::A => false,
-        }
+        let format = self.1;
+        format == Format::One as u8 || format == Format::Three as u8 || format == Format::C as u8
     }
 
     // The bits of a word that are to be zero.
