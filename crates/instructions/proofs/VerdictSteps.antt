@@ -2,7 +2,7 @@
 -- store one field.
 use mathlib.Core.Path.{◌≡◌, refl, sym, ap, ap₂, ◌∙◌}
 use mathlib.Core.Bool.{Bool, true, false, cond, not, ◌&&◌, ◌||◌}
-use Prim.Native.Nat.{ℕ, ◌*◌, ◌/◌, ◌^◌}
+use Prim.Native.Nat.{ℕ, ◌+◌, ◌*◌, ◌/◌, ◌^◌}
 use native.Mathlib.Omega.{arith}
 use lib.Dec.{eqb}
 use Rattle.fields.specs.declared.extents.Field.{Field}
@@ -11,6 +11,9 @@ use Rattle.fields.specs.Extents.{absent_field, empty, aligned, inside, shares}
 use Rattle.instructions.specs.declared.operands.Operands.{Operands}
 use Rattle.instructions.specs.declared.table.Row.{Row}
 use Rattle.std.specs.Prelude.{Some, Result, Ok, Err}
+use denote.Enum.Declared.{tag_of}
+use denote.Enum.Bare.{tag_one}
+use Rattle.instructions.specs.contracts.words.Refusal.{the_type}
 use Rattle.instructions.specs.declared.words.Refusal.{Refusal}
 use Rattle.instructions.specs.declared.verdict.Stop.{Stop}
 use Rattle.std.specs.Result.{is_ok}
@@ -171,6 +174,32 @@ pub zero_ok : {A : Type 0} (r : Result A Stop) → eqb (said_number stop_number 
 zero_ok (Ok a) = refl
 zero_ok (Err Stop.Exit) = refl
 zero_ok (Err (Stop.Refused why)) = number_some why
+
+-- the number of a refusal is its place among the refusals, from 4 on
+refusal_place : (why : Refusal) → refusal_number why ≡ 4 + tag_of the_type why
+refusal_place Refusal.NotThere = refl
+refusal_place Refusal.NotListed = refl
+refusal_place Refusal.NotZero = refl
+refusal_place Refusal.NoMeaning = refl
+refusal_place Refusal.Misaligned = refl
+refusal_place Refusal.Short = refl
+refusal_place Refusal.Outside = refl
+refusal_place Refusal.Shared = refl
+
+pub one_refusal : (a b : Refusal) → refusal_number a ≡ refusal_number b → a ≡ b
+one_refusal a b e = let x = refusal_place a in let y = refusal_place b in tag_one the_type tt a b (omega arith)
+
+-- no two of what a verdict can be have one number
+pub one_verdict : (a b : Result (Unit {0}) Stop) → said_number stop_number a ≡ said_number stop_number b → a ≡ b
+one_verdict (Ok a) (Ok b) e = refl
+one_verdict (Ok a) (Err Stop.Exit) e = absurd (omega arith)
+one_verdict (Ok a) (Err (Stop.Refused why)) e = let x = refusal_place why in absurd (omega arith)
+one_verdict (Err Stop.Exit) (Ok b) e = absurd (omega arith)
+one_verdict (Err Stop.Exit) (Err Stop.Exit) e = refl
+one_verdict (Err Stop.Exit) (Err (Stop.Refused why)) e = let x = refusal_place why in absurd (omega arith)
+one_verdict (Err (Stop.Refused why)) (Ok b) e = let x = refusal_place why in absurd (omega arith)
+one_verdict (Err (Stop.Refused why)) (Err Stop.Exit) e = let x = refusal_place why in absurd (omega arith)
+one_verdict (Err (Stop.Refused a)) (Err (Stop.Refused b)) e = ap (λ (why : Refusal). Err (Stop.Refused why)) (one_refusal a b e)
 
 -- the row of a listed word says whether it goes by items
 pub row_items : (w : ℕ) {r : Row} → decoded w ≡ Ok r → has_items (kind_of r) ≡ by_items w

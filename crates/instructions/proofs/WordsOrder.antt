@@ -7,9 +7,10 @@ use native.Mathlib.Omega.{arith}
 use Rattle.fields.specs.Field.{field}
 use Rattle.instructions.specs.declared.table.Row.{Row}
 use Rattle.std.specs.Prelude.{Option, Some, None, Result, Ok, Err}
+use Rattle.instructions.specs.declared.words.Parts.{Parts}
 use Rattle.instructions.specs.declared.words.Refusal.{Refusal}
 use Rattle.instructions.specs.Table.{named_of, found}
-use Rattle.instructions.specs.Words.{not_zero, missing, decoded_at, decoded}
+use Rattle.instructions.specs.Words.{joined, not_zero, missing, decoded_at, decoded, reading_at, reading, assembled_at, assembled}
 
 -- the two tests of a listed code, with their outcomes z and m
 abbrev outcome : Row → Bool → Bool → Result Row Refusal
@@ -83,7 +84,7 @@ pub listed_passes : (w : ℕ) (r : Row) → (decoded w ≡ Ok r) ↔ ((found (fi
 unfolding decoded
 listed_passes w r = (passes w (found (field 64 0 8 w)) r, λ q. ap (decoded_at w) q.0 ∙ rw (q.1, q.2))
 
--- a word by itself is refused 5, 6 or 7
+-- a word by itself is refused 5, 6 or 7: decoded, read into parts or put together of them
 abbrev pub of_word : Refusal → Bool
 of_word Refusal.NotThere = false
 of_word Refusal.NotListed = true
@@ -106,3 +107,19 @@ refused_by_word w why e = go (found (field 64 0 8 w)) e
     go : (f : Option Row) → decoded_at w f ≡ Err why → of_word why ≡ true
     go None e = let i : Refusal.NotListed ≡ why = cc in ap of_word (sym i)
     go (Some r) e = tested r (not_zero r w) (missing (named_of r) w) e
+
+pub refused_by_reading : (w : ℕ) (why : Refusal) → reading w ≡ Err why → of_word why ≡ true
+unfolding reading
+refused_by_reading w why e = go (decoded w) refl e
+  where
+    go : (d : Result Row Refusal) → d ≡ decoded w → reading_at w d ≡ Err why → of_word why ≡ true
+    go (Ok r) is e = let z : ◌≡◌ {A = ℕ} 0 1 = cc in absurd (omega arith)
+    go (Err n) is e = let i : n ≡ why = cc in refused_by_word w why (sym is ∙ ap Err i)
+
+pub refused_by_joining : (p : Parts) (why : Refusal) → assembled p ≡ Err why → of_word why ≡ true
+unfolding assembled
+refused_by_joining p why e = go (decoded (joined p)) refl e
+  where
+    go : (d : Result Row Refusal) → d ≡ decoded (joined p) → assembled_at (joined p) d ≡ Err why → of_word why ≡ true
+    go (Ok r) is e = let z : ◌≡◌ {A = ℕ} 0 1 = cc in absurd (omega arith)
+    go (Err n) is e = let i : n ≡ why = cc in refused_by_word (joined p) why (sym is ∙ ap Err i)
