@@ -3,6 +3,7 @@ ghost use Rattle.std.specs.Prelude.{◌≤◌, length};
 
 use crate::jobs::Job;
 use fields::bytes::{self, WORD};
+use runs::records::Record;
 use std::{fmt, io};
 
 // A line of what is other than before.
@@ -13,16 +14,16 @@ fn change(
     new: u64,
     digits: usize,
 ) -> io::Result<()> {
-    if old != new {
-        println!(out; "# {what}: {old:0digits$x} -> {new:0digits$x}")?;
-    }
-    Ok(())
+    println!(out; "# {what}: {old:0digits$x} -> {new:0digits$x}")
 }
 
-// Registers and words are a loop each: one iterator over both would be a type of its own, longer than the two.
+// Registers and words are a loop each: one iterator over both would be a type of its own, longer than the two. What is the same is passed over before it
+// is named.
 fn of_registers(out: &impl Print, before: &[u64; 256], after: &[u64; 256]) -> io::Result<()> {
     for (k, (old, new)) in before.iter().zip(after).enumerate() {
-        change(out, format_args!("register {k:02x}"), *old, *new, 16)?;
+        if *old != *new {
+            change(out, format_args!("register {k:02x}"), *old, *new, 16)?;
+        }
     }
     Ok(())
 }
@@ -35,14 +36,23 @@ fn of_memory(out: &impl Print, before: &[u8], after: &[u8]) -> io::Result<()>
         .zip(after.chunks_exact(8))
         .enumerate()
     {
-        let address = 0x4000 + 0x40 * k;
-        change(
-            out,
-            format_args!("word {address:04x}"),
-            bytes::read::<WORD>(old, 0),
-            bytes::read::<WORD>(new, 0),
-            16,
-        )?;
+        let old = bytes::read::<WORD>(old, 0);
+        let new = bytes::read::<WORD>(new, 0);
+        if old != new {
+            let address = 0x4000 + 0x40 * k;
+            change(out, format_args!("word {address:04x}"), old, new, 16)?;
+        }
+    }
+    Ok(())
+}
+
+// P and the flags.
+fn of_record(out: &impl Print, before: Record, after: Record) -> io::Result<()> {
+    if before.p != after.p {
+        change(out, "p", before.p, after.p, 4)?;
+    }
+    if before.flags != after.flags {
+        change(out, "flags", before.flags, after.flags, 6)?;
     }
     Ok(())
 }
@@ -51,6 +61,5 @@ fn of_memory(out: &impl Print, before: &[u8], after: &[u8]) -> io::Result<()>
 pub fn tell(out: &impl Print, before: &Job, after: &Job) -> io::Result<()> {
     of_registers(out, &before.registers, &after.registers)?;
     of_memory(out, before.memory(), after.memory())?;
-    change(out, "p", before.rec.p, after.rec.p, 4)?;
-    change(out, "flags", before.rec.flags, after.rec.flags, 6)
+    of_record(out, before.rec, after.rec)
 }

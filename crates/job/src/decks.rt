@@ -33,6 +33,9 @@ impl TryFrom<u64> for Length {
     }
 }
 
+// One byte more than the text of a deck may have.
+pub const ROOM: usize = 262144;
+
 // What the lines of a deck have said; the words stand by their order in memory.
 #[derive(Clone, Copy)]
 pub struct Deck {
@@ -73,7 +76,8 @@ fn once(place: &mut Option<u64>, value: u64) -> Result<(), LineFault> {
 }
 
 impl Deck {
-    fn empty() -> Deck {
+    // A deck of which no line has been read.
+    pub fn empty() -> Deck {
         Deck {
             memory: None,
             p: None,
@@ -138,10 +142,12 @@ impl Deck {
     }
 
     // What the lines of a text say, up to the first that is wrong.
-    pub fn read(text: &[u8]) -> Result<Deck, DeckFault<'_>> {
-        let mut deck = Deck::empty();
+    pub fn read<'a>(&mut self, text: &'a [u8]) -> Result<(), DeckFault<'a>> {
+        if ROOM <= text.len() {
+            return Err(DeckFault::Long);
+        }
         for (k, line) in text.split(|b| *b == b'\n').enumerate() {
-            if let Err(fault) = deck.line(line) {
+            if let Err(fault) = self.line(line) {
                 let number = k + 1;
                 return Err(DeckFault::Line {
                     number,
@@ -150,6 +156,6 @@ impl Deck {
                 });
             }
         }
-        Ok(deck)
+        Ok(())
     }
 }

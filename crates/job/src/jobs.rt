@@ -13,9 +13,6 @@ use runs::calls;
 use runs::calls::Outcome;
 use runs::records::Record;
 
-// One byte more than the text of a deck may have.
-pub const ROOM: usize = 262144;
-
 // The memory has room for the longest that may be lent, since there is no heap.
 #[derive(Clone, Copy)]
 pub struct Job {
@@ -25,46 +22,68 @@ pub struct Job {
     pub rec: Record,
 }
 
-// The memory of a deck's words.
-fn memory_of(words: &[Option<u64>; 8192]) -> [u8; 65536] {
-    let mut memory = [0; 65536];
-    for (place, word) in memory.chunks_exact_mut(8).zip(words) {
-        bytes::put::<WORD>(place, 0, word.unwrap_or(0));
-    }
-    memory
+// At most so many steps over the first bytes of the memory.
+fn run_lent(
+    memory: &mut [u8],
+    bytes: usize,
+    registers: &mut [u64],
+    rec: Record,
+    budget: u32,
+) -> Outcome
+    requires { bytes ≤ length memory.old }
+    ensures { leaves (lent_at (take bytes memory.new) registers.new) result ≡ run budget (lent_at (take bytes memory.old) registers.old rec) }
+{
+    calls::run(&mut memory[..bytes], registers, rec, budget)
 }
 
-// A deck has to say how long the memory is, and where the job stands.
-impl TryFrom<Deck> for Job {
+// What a deck has to say: how long the memory is, and where the job stands.
+#[derive(Clone, Copy)]
+pub struct Start {
+    pub length: Length,
+    pub p: u64,
+}
+
+impl TryFrom<&Deck> for Start {
     type Error = DeckFault<'static>;
 
-    ghost try_from_gives = { λ deck r. IfOk r (λ job. (deck.memory ≡ Some job.length) × (deck.p ≡ Some job.rec.p)) };
+    ghost try_from_gives = { λ deck r. IfOk r (λ start. (deck.now.memory ≡ Some start.length) × (deck.now.p ≡ Some start.p)) };
 
-    fn try_from(deck: Deck) -> Result<Job, DeckFault<'static>> {
+    fn try_from(deck: &Deck) -> Result<Start, DeckFault<'static>> {
         let length = deck.memory.ok_or(DeckFault::NoMemory)?;
         let p = deck.p.ok_or(DeckFault::NoP)?;
-        Ok(Job {
-            memory: memory_of(&deck.words),
-            length,
+        Ok(Start { length, p })
+    }
+}
+
+impl Job {
+    // The job of a deck, but for its words, which are put where the job stands: a copy of it is longer than most decks.
+    pub fn of(start: Start, deck: &Deck) -> Job
+        ensures length { result.length ≡ start.length }
+        ensures p { result.rec.p ≡ start.p }
+    {
+        Job {
+            memory: [0; 65536],
+            length: start.length,
             registers: deck.registers.map(|value| value.unwrap_or(0)),
             rec: Record {
-                p,
+                p: start.p,
                 mark: deck.mark.unwrap_or(0),
                 word: deck.held.unwrap_or(0),
                 items: deck.items.unwrap_or(0),
                 flags: deck.flags.unwrap_or(0),
             },
-        })
-    }
-}
-
-impl Job {
-    // The job of a deck's text.
-    pub fn read(text: &[u8]) -> Result<Job, DeckFault<'_>> {
-        if ROOM <= text.len() {
-            return Err(DeckFault::Long);
         }
-        Job::try_from(Deck::read(text)?)
+    }
+
+    // The words of a deck to the memory.
+    pub fn fill(&mut self, deck: &Deck)
+        ensures length { self.new.length ≡ self.old.length }
+        ensures registers { self.new.registers ≡ self.old.registers }
+        ensures rec { self.new.rec ≡ self.old.rec }
+    {
+        for (place, word) in self.memory.chunks_exact_mut(8).zip(&deck.words) {
+            bytes::put::<WORD>(place, 0, word.unwrap_or(0));
+        }
     }
 
     // The memory that is lent.
@@ -81,29 +100,21 @@ impl Job {
         Instruction { p, word, operands }
     }
 
-    // At most so many steps: the job afterwards, and what the call says.
-    pub fn run(self, budget: u32) -> (Job, Outcome)
-        ensures ran { leaves (lent_at (take self.length.bytes result.0.memory) result.0.registers) result.1
-            ≡ run budget (lent_at (take self.length.bytes self.memory) self.registers self.rec) }
-        ensures length { result.0.length ≡ self.length }
-        ensures kept { result.0.rec ≡ result.1.rec }
+    // At most so many steps: what the call says, and the job afterwards in its place.
+    pub fn run(&mut self, budget: u32) -> Outcome
+        ensures ran { leaves (lent_at (take self.new.length.bytes self.new.memory) self.new.registers) result
+            ≡ run budget (lent_at (take self.old.length.bytes self.old.memory) self.old.registers self.old.rec) }
+        ensures length { self.new.length ≡ self.old.length }
+        ensures kept { self.new.rec ≡ result.rec }
     {
         let Job {
-            mut memory,
+            memory,
             length,
-            mut registers,
+            registers,
             rec,
         } = self;
-        let outcome = calls::run(&mut memory[..length.bytes], &mut registers, rec, budget);
-        let rec = outcome.rec;
-        (
-            Job {
-                memory,
-                length,
-                registers,
-                rec,
-            },
-            outcome,
-        )
+        let outcome = run_lent(memory, length.bytes, registers, *rec, budget);
+        *rec = outcome.rec;
+        outcome
     }
 }

@@ -14,17 +14,32 @@ mod changes; // what one step changed, in words
 mod tasks; // run, step and list
 
 use command::Command;
-use jobs::{Job, ROOM};
+use decks::{Deck, ROOM};
+use jobs::{Job, Start};
 use lines::read_full;
 use std::io;
 
+// What the command asks of a deck's job, which is made where it stays.
+fn with_job(rt: &HostRuntime, command: Command, deck: &Deck) -> io::Result<()> {
+    match Start::try_from(deck) {
+        Ok(start) => {
+            let mut job = Job::of(start, deck);
+            job.fill(deck);
+            tasks::follow(rt, command, &mut job)
+        }
+        Err(fault) => fault.tell(&rt.stderr()),
+    }
+}
+
 // The deck of standard input, and what the command asks of its job; or what is wrong with the deck.
-// The text has a fixed place, since there is no heap.
+// The text has a fixed place, since there is no heap. Not copied into main: a bad command line is told without all that room.
+#[inline(never)]
 fn with_deck(rt: &HostRuntime, command: Command) -> io::Result<()> {
     let mut place = [0; ROOM];
     let count = read_full(&mut rt.stdin(), &mut place)?;
-    match Job::read(&place[..count]) {
-        Ok(job) => tasks::follow(rt, command, job),
+    let mut deck = Deck::empty();
+    match deck.read(&place[..count]) {
+        Ok(()) => with_job(rt, command, &deck),
         Err(fault) => fault.tell(&rt.stderr()),
     }
 }

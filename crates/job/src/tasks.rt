@@ -36,10 +36,10 @@ fn tell(out: &impl Print, job: &Job, outcome: Outcome) -> io::Result<()> {
 }
 
 // At most so many steps, and the deck of the state afterwards.
-fn run(out: &impl Print, job: Job, budget: u32) -> io::Result<()> {
-    let (after, outcome) = job.run(budget);
-    tell(out, &after, outcome)?;
-    out.print(after)
+fn run(out: &impl Print, job: &mut Job, budget: u32) -> io::Result<()> {
+    let outcome = job.run(budget);
+    tell(out, job, outcome)?;
+    print!(out; "{job}")
 }
 
 // The word that a step works on: the held one, or the one at P.
@@ -50,27 +50,29 @@ fn at_work(job: &Job) -> u64 {
     job.rec.word
 }
 
-// One step, what it changed, and the deck of the state afterwards.
-fn step(out: &impl Print, job: Job) -> io::Result<()> {
-    println!(out; "# at {:04x}: {}", job.rec.p, Spelled(at_work(&job)))?;
-    let (after, outcome) = job.run(1);
-    changes::tell(out, &job, &after)?;
-    tell(out, &after, outcome)?;
-    out.print(after)
+// One step, what it changed, and the deck of the state afterwards. Not copied into its caller: no other command has the room of a second job.
+#[inline(never)]
+fn step(out: &impl Print, job: &mut Job) -> io::Result<()> {
+    println!(out; "# at {:04x}: {}", job.rec.p, Spelled(at_work(job)))?;
+    let before = *job;
+    let outcome = job.run(1);
+    changes::tell(out, &before, job)?;
+    tell(out, job, outcome)?;
+    print!(out; "{job}")
 }
 
 // What is half done, and the instructions from P on.
-fn list(out: &impl Print, job: Job, most: u32) -> io::Result<()> {
-    let (_, outcome) = job.run(0);
+fn list(out: &impl Print, job: &mut Job, most: u32) -> io::Result<()> {
+    let outcome = job.run(0);
     if is_paused(outcome.answer) {
-        progress(out, &job)?;
+        progress(out, job)?;
     } else {
         println!(out; "# answer {}", InWords(outcome.answer))?;
     }
-    listing::from_p(out, &job, most)
+    listing::from_p(out, job, most)
 }
 
-pub fn follow(out: &impl Print, command: Command, job: Job) -> io::Result<()> {
+pub fn follow(out: &impl Print, command: Command, job: &mut Job) -> io::Result<()> {
     match command {
         Command::Run(budget) => run(out, job, budget),
         Command::Step => step(out, job),
