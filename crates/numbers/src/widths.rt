@@ -7,17 +7,17 @@ use crate::signs::{bits, low, signed};
 
 // A number has e + 1 bits of exponent and, to their right, h + 1 of coefficient.
 #[derive(Clone, Copy)]
-pub struct Widths {
+pub(crate) struct Widths {
     e: u64,
     h: u64,
     ghost few: { (e < 16) × (h < 48) },
 }
 
 // Of a word.
-pub const WORD: Widths = Widths { e: 15, h: 47 };
+pub(crate) const WORD: Widths = Widths { e: 15, h: 47 };
 
 // Of a half word.
-pub const HALF_WORD: Widths = Widths { e: 7, h: 23 };
+pub(crate) const HALF_WORD: Widths = Widths { e: 7, h: 23 };
 
 impl Widths {
     // The low h + 1 bits.
@@ -35,7 +35,7 @@ impl Widths {
     }
 
     // A number taken apart.
-    pub fn split(self, word: u64) -> Number
+    pub(crate) fn split(self, word: u64) -> Number
         ensures { result ≡ split_at self.e self.h word }
     {
         Number {
@@ -45,7 +45,7 @@ impl Widths {
     }
 
     // A number put together.
-    pub fn join(self, n: Number) -> u64
+    pub(crate) fn join(self, n: Number) -> u64
         ensures { result ≡ joined_at self.e self.h n }
     {
         (bits(n.exponent, self.e) << (self.h + 1)) | bits(n.coefficient, self.h)
