@@ -20,6 +20,7 @@ fn main(rt: HostRuntime) -> io::Result<()> {
     of_refusals::too_few_registers(&rt)?;
     of_refusals::of_other_lengths(&rt)?;
     of_table::rows(&rt)?;
+    of_table::formats(&rt)?;
     of_words::each_code(&rt)?;
     of_words::listed(&rt)?;
     of_words::refused(&rt)?;
