@@ -55,8 +55,8 @@ no_items_skip p w o n = no_items_pass w o n
 -- ---- 4. ONE OUTCOME (demand 1)
 
 -- §13.1: what the contract of `work` says of memory and flags is met by one memory and one set of flags; what that of `act` says, by one memory, one list
--- of registers, one P and one set of flags. Every other public function's contract is an equation with its result, or of a verdict with its number, which no other
--- verdict has (`VerdictSteps.one_verdict`).
+-- of registers, one P and one set of flags. Every other public function's contract is an equation with its result, or of a verdict with its number,
+-- which no other verdict has (`VerdictSteps.one_verdict`).
 pub works_once : (w : ℕ) (o : Operands) (from count : ℕ) (m : List ℕ) (f : ℕ) (m' m'' : List ℕ) (f' f'' : ℕ) → Bytes m' → Bytes m''
     → WorksTo w o from count m f m' f' → WorksTo w o from count m f m'' f'' → (m' ≡ m'') × (f' ≡ f'')
 works_once w o from count m f m' m'' f' f'' b b' k l =

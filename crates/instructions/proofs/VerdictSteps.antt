@@ -4,6 +4,7 @@ use mathlib.Core.Path.{◌≡◌, refl, sym, ap, ap₂, ◌∙◌}
 use mathlib.Core.Bool.{Bool, true, false, cond, not, ◌&&◌, ◌||◌}
 use Prim.Native.Nat.{ℕ, ◌+◌, ◌*◌, ◌/◌, ◌^◌}
 use native.Mathlib.Omega.{arith}
+use borrow.Author.Tests.{ne_eqb}
 use lib.Dec.{eqb}
 use Rattle.fields.specs.declared.extents.Field.{Field}
 use Rattle.fields.specs.declared.extents.Unit.TheVariants.{Byte, Word}
@@ -159,22 +160,6 @@ cut_unfetched n x p w r read e l is = go l ∙ ap (λ (b : Bool). unfetched_at p
     go true = refl
     go false = sym (sym (short_unfetched p n) ∙ ap not (listed_there n x p w r read e))
 
-number_some : (why : Refusal) → eqb (refusal_number why) 0 ≡ false
-number_some Refusal.NotThere = refl
-number_some Refusal.NotListed = refl
-number_some Refusal.NotZero = refl
-number_some Refusal.NoMeaning = refl
-number_some Refusal.Misaligned = refl
-number_some Refusal.Short = refl
-number_some Refusal.Outside = refl
-number_some Refusal.Shared = refl
-
--- only what lets pass has the number 0
-pub zero_ok : {A : Type 0} (r : Result A Stop) → eqb (said_number stop_number r) 0 ≡ is_ok r
-zero_ok (Ok a) = refl
-zero_ok (Err Stop.Exit) = refl
-zero_ok (Err (Stop.Refused why)) = number_some why
-
 -- the number of a refusal is its place among the refusals, from 4 on
 refusal_place : (why : Refusal) → refusal_number why ≡ 4 + tag_of the_type why
 refusal_place Refusal.NotThere = refl
@@ -185,6 +170,15 @@ refusal_place Refusal.Misaligned = refl
 refusal_place Refusal.Short = refl
 refusal_place Refusal.Outside = refl
 refusal_place Refusal.Shared = refl
+
+number_some : (why : Refusal) → eqb (refusal_number why) 0 ≡ false
+number_some why = ne_eqb _ _ (λ e. let x = refusal_place why in omega arith)
+
+-- only what lets pass has the number 0
+pub zero_ok : {A : Type 0} (r : Result A Stop) → eqb (said_number stop_number r) 0 ≡ is_ok r
+zero_ok (Ok a) = refl
+zero_ok (Err Stop.Exit) = refl
+zero_ok (Err (Stop.Refused why)) = number_some why
 
 pub one_refusal : (a b : Refusal) → refusal_number a ≡ refusal_number b → a ≡ b
 one_refusal a b e = let x = refusal_place a in let y = refusal_place b in tag_one the_type tt a b (omega arith)

@@ -10,7 +10,7 @@ use Rattle.std.specs.Prelude.{Option, Some, None, Result, Ok, Err}
 use Rattle.instructions.specs.declared.words.Parts.{Parts}
 use Rattle.instructions.specs.declared.words.Refusal.{Refusal}
 use Rattle.instructions.specs.Table.{named_of, found}
-use Rattle.instructions.specs.Words.{joined, not_zero, missing, decoded_at, decoded, reading_at, reading, assembled_at, assembled}
+use Rattle.instructions.specs.Words.{parts_of, joined, not_zero, missing, decoded_at, decoded, reading_at, reading, assembled_at, assembled}
 
 -- the two tests of a listed code, with their outcomes z and m
 abbrev outcome : Row → Bool → Bool → Result Row Refusal
@@ -108,18 +108,19 @@ refused_by_word w why e = go (found (field 64 0 8 w)) e
     go None e = let i : Refusal.NotListed ≡ why = cc in ap of_word (sym i)
     go (Some r) e = tested r (not_zero r w) (missing (named_of r) w) e
 
+-- what hands on a refusal of the decoding, and gives one thing where there is none
+handed_on : {A : Type 0} (w : ℕ) (why : Refusal) (a : A) (at : Result Row Refusal → Result A Refusal) → ((r : Row) → at (Ok r) ≡ Ok a) → ((n : Refusal) → at (Err n) ≡ Err n)
+    → at (decoded w) ≡ Err why → of_word why ≡ true
+handed_on {A} w why a at good bad e = go (decoded w) refl e
+  where
+    go : (d : Result Row Refusal) → d ≡ decoded w → at d ≡ Err why → of_word why ≡ true
+    go (Ok r) is e = let x = good r in let z : ◌≡◌ {A = ℕ} 0 1 = cc in absurd (omega arith)
+    go (Err n) is e = let x = bad n in let i : n ≡ why = cc in refused_by_word w why (sym is ∙ ap Err i)
+
 pub refused_by_reading : (w : ℕ) (why : Refusal) → reading w ≡ Err why → of_word why ≡ true
 unfolding reading
-refused_by_reading w why e = go (decoded w) refl e
-  where
-    go : (d : Result Row Refusal) → d ≡ decoded w → reading_at w d ≡ Err why → of_word why ≡ true
-    go (Ok r) is e = let z : ◌≡◌ {A = ℕ} 0 1 = cc in absurd (omega arith)
-    go (Err n) is e = let i : n ≡ why = cc in refused_by_word w why (sym is ∙ ap Err i)
+refused_by_reading w why = handed_on w why (parts_of w) (reading_at w) (λ r. refl) (λ n. refl)
 
 pub refused_by_joining : (p : Parts) (why : Refusal) → assembled p ≡ Err why → of_word why ≡ true
 unfolding assembled
-refused_by_joining p why e = go (decoded (joined p)) refl e
-  where
-    go : (d : Result Row Refusal) → d ≡ decoded (joined p) → assembled_at (joined p) d ≡ Err why → of_word why ≡ true
-    go (Ok r) is e = let z : ◌≡◌ {A = ℕ} 0 1 = cc in absurd (omega arith)
-    go (Err n) is e = let i : n ≡ why = cc in refused_by_word (joined p) why (sym is ∙ ap Err i)
+refused_by_joining p why = handed_on (joined p) why (joined p) (assembled_at (joined p)) (λ r. refl) (λ n. refl)
